@@ -1,0 +1,34 @@
+-- The laws of a choice.
+-- Assumes nothing.
+use Prim.Native.Nat.{ℕ, _≤_}
+use mathlib.Core.Path.{_≡_, refl, sym, _∙_}
+use mathlib.Core.Bool.{Bool, true, false, not, _&&_}
+use native.Mathlib.Nat.{le-refl}
+use native.Mathlib.Omega.{arith}
+use borrow.Author.Tests.{leb-true, le-leb, not-true, not-false}
+use lib.Dec.{leb}
+use Rattle.basics.specs.Choice.{only, within}
+
+-- what a call's answer r, and the branch `if !r` on it, say of the test b that the callee's contract names
+pub stops : {r b : Bool} → r ≡ b → not r ≡ true → b ≡ false
+stops {r} e h = sym e ∙ not-true r h
+
+pub passes : {r b : Bool} → r ≡ b → not r ≡ false → b ≡ true
+passes {r} e h = sym e ∙ not-false r h
+
+pub and-true : (a b : Bool) → (a && b) ≡ true → (a ≡ true) × (b ≡ true)
+and-true true b e = (refl, e)
+and-true false b e = (e, cc)
+
+-- from low to high, as a test and as a fact
+pub within-in : (low high x : ℕ) → low ≤ x → x ≤ high → within low high x ≡ true
+within-in low high x l h = rw (le-leb low x l, le-leb x high h)
+
+pub within-true : (low high x : ℕ) → within low high x ≡ true → (low ≤ x) × (x ≤ high)
+within-true low high x e =
+    let p = and-true (leb low x) (leb x high) e in
+    (leb-true _ _ (p .0), leb-true _ _ (p .1))
+
+pub only-below : (b : Bool) (x : ℕ) → only b x ≤ x
+only-below true x = le-refl x
+only-below false x = omega arith

@@ -1,0 +1,104 @@
+-- The laws of the sum, the largest value and the first index over the indices below n.
+-- Assumes nothing.
+use Prim.Native.Nat.{ℕ, zero, suc, _+_, _*_, _≤_, _<_, max}
+use mathlib.Core.Path.{_≡_, refl, ap, _∙_, subst}
+use mathlib.Core.Bool.{Bool, true, false}
+use native.Mathlib.Nat.{le-refl, not-suc-le-zero}
+use native.Mathlib.Numerals.{add-one}
+use native.Mathlib.Decide.{ℕ-discrete}
+use native.Mathlib.Omega.{arith}
+use borrow.Author.Tests.{lt-ltb, le-ltb}
+use lib.Dec.{ltb}
+use Rattle.basics.specs.Choice.{pick}
+use Rattle.basics.specs.Over.{sumTo, maxTo, firstTo}
+
+-- ---- the sum
+
+pub sum-none : (g : ℕ → ℕ) → 0 ≡ sumTo 0 g
+unfolding sumTo
+sum-none g = refl
+
+pub sum-more : (i : ℕ) (g : ℕ → ℕ) → sumTo (i + 1) g ≡ sumTo i g + g i
+unfolding sumTo
+sum-more i g = rw add-one
+
+-- nowhere larger, so no larger in sum
+pub sum-le : (n : ℕ) (g h : ℕ → ℕ) → ((k : ℕ) → k < n → g k ≤ h k) → sumTo n g ≤ sumTo n h
+unfolding sumTo
+sum-le zero g h le = le-refl 0
+sum-le (suc n) g h le = omega (arith, sum-le n g h (λ k l. le k (omega arith)), le n (le-refl (suc n)))
+
+-- over more indices, no smaller
+pub sum-rises : (m n : ℕ) (g : ℕ → ℕ) → m ≤ n → sumTo m g ≤ sumTo n g
+unfolding sumTo
+sum-rises m zero g h = let e : m ≡ 0 = omega arith in rw e (le-refl 0)
+sum-rises m (suc n) g h = go (ℕ-discrete m (suc n)) (λ l. sum-rises m n g l)
+  where
+    go : Dec (m ≡ suc n) → (m ≤ n → sumTo m g ≤ sumTo n g) → sumTo m g ≤ sumTo (suc n) g
+    go (yes e) ih = rw e (le-refl (sumTo (suc n) g))
+    go (no d) ih = omega (arith, ih (omega arith))
+
+-- each value is at most the sum
+pub sum-part : (n k : ℕ) (g : ℕ → ℕ) → k < n → g k ≤ sumTo n g
+sum-part n k g h = omega (arith, sum-more k g, sum-rises (k + 1) n g (omega arith))
+
+pub sum-bound : (n b : ℕ) (g : ℕ → ℕ) → ((k : ℕ) → k < n → g k ≤ b) → sumTo n g ≤ n * b
+unfolding sumTo
+sum-bound zero b g le = omega arith
+sum-bound (suc n) b g le = omega (arith, sum-bound n b g (λ k l. le k (omega arith)), le n (le-refl (suc n)))
+
+pub sum-eq : (n : ℕ) (g h : ℕ → ℕ) → ((k : ℕ) → k < n → g k ≡ h k) → sumTo n g ≡ sumTo n h
+unfolding sumTo
+sum-eq zero g h eq = refl
+sum-eq (suc n) g h eq = omega (arith, sum-eq n g h (λ k l. eq k (omega arith)), eq n (le-refl (suc n)))
+
+pub sum-add : (n : ℕ) (g h : ℕ → ℕ) → sumTo n g + sumTo n h ≡ sumTo n (λ k. g k + h k)
+unfolding sumTo
+sum-add zero g h = refl
+sum-add (suc n) g h = omega (arith, sum-add n g h)
+
+-- ---- the largest value
+
+pub max-none : (g : ℕ → ℕ) → 0 ≡ maxTo 0 g
+unfolding maxTo
+max-none g = refl
+
+pub max-more : (i : ℕ) (g : ℕ → ℕ) → maxTo (i + 1) g ≡ max (maxTo i g) (g i)
+unfolding maxTo
+max-more i g = rw add-one
+
+pub max-bound : (n b : ℕ) (g : ℕ → ℕ) → ((k : ℕ) → k < n → g k ≤ b) → maxTo n g ≤ b
+unfolding maxTo
+max-bound zero b g le = omega arith
+max-bound (suc n) b g le = omega (arith, max-bound n b g (λ k l. le k (omega arith)), le n (le-refl (suc n)))
+
+-- ---- the first index
+
+pub first-none : (p : ℕ → Bool) → firstTo 0 p ≡ 0
+unfolding firstTo
+first-none p = refl
+
+next : (f n : ℕ) (b : Bool) → f ≡ n → pick (ltb f n) f (pick b n (suc n)) ≡ pick b n (suc n)
+next f n b e = ap (λ (t : Bool). pick t f (pick b n (suc n))) (le-ltb f n (omega arith))
+
+-- nothing found so far, nor here
+pub first-more : (n : ℕ) (p : ℕ → Bool) → firstTo n p ≡ n → p n ≡ false → firstTo (n + 1) p ≡ n + 1
+unfolding firstTo
+first-more n p e f = rw add-one (next (firstTo n p) n (p n) e ∙ ap (λ (b : Bool). pick b n (suc n)) f)
+
+here : (n : ℕ) (p : ℕ → Bool) → firstTo n p ≡ n → p n ≡ true → firstTo (suc n) p ≡ n
+unfolding firstTo
+here n p e f = next (firstTo n p) n (p n) e ∙ ap (λ (b : Bool). pick b n (suc n)) f
+
+earlier : (n l : ℕ) (p : ℕ → Bool) → l < n → firstTo n p ≡ l → firstTo (suc n) p ≡ l
+unfolding firstTo
+earlier n l p h e = ap (λ (t : Bool). pick t (firstTo n p) (pick (p n) n (suc n))) (lt-ltb (firstTo n p) n (omega arith)) ∙ e
+
+-- nothing found before l, and l found
+pub first-found : (n l : ℕ) (p : ℕ → Bool) → l < n → firstTo l p ≡ l → p l ≡ true → firstTo n p ≡ l
+first-found zero l p h e f = absurd (not-suc-le-zero h)
+first-found (suc n) l p h e f = go (ℕ-discrete l n) (λ k. first-found n l p k e f)
+  where
+    go : Dec (l ≡ n) → (l < n → firstTo n p ≡ l) → firstTo (suc n) p ≡ l
+    go (yes d) ih = subst (λ (m : ℕ). firstTo (suc m) p ≡ l) d (here l p e f)
+    go (no d) ih = earlier n l p (omega arith) (ih (omega arith))

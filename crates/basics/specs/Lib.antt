@@ -1,0 +1,9 @@
+-- The words that definitions are made of.
+--   Choice   pick, only, within
+--   Over     sumTo, maxTo, firstTo: over the indices below n
+--   Text     bytes "cpus 2\n"
+--   Determined   when a contract determines the answer
+pub mod Choice
+pub mod Over
+pub mod Text
+pub mod Determined

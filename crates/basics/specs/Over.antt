@@ -1,0 +1,20 @@
+-- "Over the tasks", "over the resources": each is over the indices 0, 1, .., n − 1.
+use Prim.Native.Nat.{ℕ, zero, suc, _+_, max}
+use mathlib.Core.Bool.{Bool}
+use lib.Dec.{ltb}
+use Rattle.basics.specs.Choice.{pick}
+
+-- the sum of g 0, .., g (n − 1)
+unfoldable pub sumTo : ℕ → (ℕ → ℕ) → ℕ
+sumTo zero g = 0
+sumTo (suc n) g = sumTo n g + g n
+
+-- the largest of g 0, .., g (n − 1), 0 if there is none
+unfoldable pub maxTo : ℕ → (ℕ → ℕ) → ℕ
+maxTo zero g = 0
+maxTo (suc n) g = max (maxTo n g) (g n)
+
+-- the smallest index below n at which the test holds, n if there is none
+unfoldable pub firstTo : ℕ → (ℕ → Bool) → ℕ
+firstTo zero p = 0
+firstTo (suc n) p = pick (ltb (firstTo n p) n) (firstTo n p) (pick (p n) n (suc n))

@@ -1,0 +1,171 @@
+-- A table is accepted exactly if the check finds nothing against it. From `fine-accepted` later proofs have the bounds by name.
+-- Assumes nothing.
+use Prim.Native.Nat.{ℕ, _+_, _*_, _≤_, _<_}
+use mathlib.Core.Path.{_≡_, refl, sym, ap, _∙_}
+use mathlib.Core.Bool.{Bool, true, false, _&&_}
+use mathlib.Core.Logic.{_⊎_, inl, inr, ⊎-elim}
+use native.Mathlib.Nat.{le-trans}
+use native.Mathlib.Omega.{arith}
+use borrow.Author.Tests.{leb-true, le-leb, eqb-true, eqb-false, eq-eqb, ne-eqb}
+use lib.Dec.{leb, eqb}
+use Rattle.basics.specs.Choice.{pick, within}
+use Rattle.basics.specs.Over.{sumTo}
+use Rattle.basics.proofs.ChoiceLaws.{and-true, within-in, within-true}
+use Rattle.basics.proofs.OverLaws.{sum-rises, sum-part}
+use Rattle.table.specs.declared.Pair.{Pair}
+use Rattle.table.specs.declared.Task.{Task}
+use Rattle.table.specs.declared.Table.{Table}
+use Rattle.table.specs.declared.Fault.{Fault}
+use Rattle.table.specs.declared.Fault.the-variants.{OutOfRange, BadTimes, BadTotals, TooManyTasks, NoTask}
+use Rattle.table.specs.declared.Checked.the-variants.{Fine}
+use Rattle.table.specs.Limits.{maxCpus, maxTasks, maxResources, maxTime, maxCount}
+use Rattle.table.specs.Empty.{unusedPair}
+use Rattle.table.specs.At.{taskAt, pairOf, totalOf}
+use Rattle.table.specs.Faults.{_then_, unless, firstFault}
+use Rattle.table.specs.Rules.{isTime, timesInRange, timesInOrder, timesFault, isUnused, usedInRange, pairInRange, totalsFit, pairFault, pairFaultOf, pairsFault, taskFault, taskFaultAt, tasksFault, tableFault}
+use Rattle.table.specs.Accepted.{GoodTimes, GoodPair, PairBounds, GoodTask, Accepted}
+use Rattle.table.proofs.FirstLaws.{first-fine, then-fine, each-fine}
+
+unless-fine : (b : Bool) (fault : Fault) (place : ℕ) → unless b fault place ≡ Fine → b ≡ true
+unless-fine true fault place e = refl
+unless-fine false fault place e = cc
+
+-- ---- a task's times
+
+pub times-good : (place T C D : ℕ) → timesFault place T C D ≡ Fine → GoodTimes T C D
+unfolding timesFault timesInRange timesInOrder
+times-good place T C D e =
+    let f = then-fine (unless (timesInRange T C D) OutOfRange place) _ e in
+    let d = and-true (isTime T && isTime C) (isTime D) (unless-fine _ OutOfRange place (f .0)) in
+    let r = and-true (isTime T) (isTime C) (d .0) in
+    let o = and-true (leb C D) (leb D T) (unless-fine _ BadTimes place (f .1)) in
+    record {
+      run-least = within-true 1 maxTime C (r .1) .0;
+      run-deadline = leb-true _ _ (o .0);
+      deadline-period = leb-true _ _ (o .1);
+      period-most = within-true 1 maxTime T (r .0) .1;
+    }
+
+pub times-fine : (place T C D : ℕ) → GoodTimes T C D → timesFault place T C D ≡ Fine
+unfolding timesFault timesInRange timesInOrder
+times-fine place T C D g =
+    rw (
+      within-in 1 maxTime T (omega arith) (omega arith),
+      within-in 1 maxTime C (omega arith) (omega arith),
+      within-in 1 maxTime D (omega arith) (omega arith),
+      le-leb C D (g .run-deadline),
+      le-leb D T (g .deadline-period),
+    )
+
+-- ---- one pair
+
+unused-is : (p : Pair) → p .requests ≡ 0 → p .longest ≡ 0 → p .total ≡ 0 → p ≡ unusedPair
+unused-is p n c t = λ j. record { requests = n j; longest = c j; total = t j }
+
+range-good : (p : Pair) (b : Bool) → eqb (p .requests) 0 ≡ b → pick b (isUnused p) (usedInRange p) ≡ true
+    → p .longest ≤ p .total → p .total ≤ p .requests * p .longest → (p ≡ unusedPair) ⊎ GoodPair p
+unfolding isUnused usedInRange
+range-good p true n e l t =
+    let z = and-true (eqb (p .longest) 0) (eqb (p .total) 0) e in
+    inl (unused-is p (eqb-true _ _ n) (eqb-true _ _ (z .0)) (eqb-true _ _ (z .1)))
+range-good p false n e l t =
+    let s = and-true (within 1 maxCount (p .requests) && isTime (p .longest)) (isTime (p .total)) e in
+    let r = and-true (within 1 maxCount (p .requests)) (isTime (p .longest)) (s .0) in
+    inr
+    (record {
+      requests-least = within-true 1 maxCount (p .requests) (r .0) .0;
+      requests-most = within-true 1 maxCount (p .requests) (r .0) .1;
+      longest-least = within-true 1 maxTime (p .longest) (r .1) .0;
+      longest-total = l;
+      total-product = t;
+      total-most = within-true 1 maxTime (p .total) (s .1) .1;
+    })
+
+pub pair-good : (place : ℕ) (p : Pair) (sum C : ℕ) → pairFault place p sum C ≡ Fine
+    → ((p ≡ unusedPair) ⊎ GoodPair p) × (sum ≤ C)
+unfolding pairFault pairInRange totalsFit
+pair-good place p sum C e =
+    let f = then-fine (unless (pairInRange p) OutOfRange place) _ e in
+    let s = and-true (leb (p .longest) (p .total) && leb (p .total) (p .requests * p .longest)) (leb sum C) (unless-fine _ BadTotals place (f .1)) in
+    let o = and-true (leb (p .longest) (p .total)) (leb (p .total) (p .requests * p .longest)) (s .0) in (
+      range-good p (eqb (p .requests) 0) refl (unless-fine _ OutOfRange place (f .0)) (leb-true _ _ (o .0)) (leb-true _ _ (o .1)),
+      leb-true _ _ (s .1),
+    )
+
+pub pair-fine : (place : ℕ) (p : Pair) (sum C : ℕ) → (p ≡ unusedPair) ⊎ GoodPair p → sum ≤ C → pairFault place p sum C ≡ Fine
+unfolding pairFault pairInRange totalsFit isUnused usedInRange
+pair-fine place p sum C (inl e) h = rw (e, le-leb sum C h)
+pair-fine place p sum C (inr g) h =
+    rw (
+      ne-eqb (p .requests) 0 (λ z. omega arith),
+      within-in 1 maxCount (p .requests) (g .requests-least) (g .requests-most),
+      within-in 1 maxTime (p .longest) (g .longest-least) (omega arith),
+      within-in 1 maxTime (p .total) (omega arith) (g .total-most),
+      le-leb (p .longest) (p .total) (g .longest-total),
+      le-leb (p .total) (p .requests * p .longest) (g .total-product),
+      le-leb sum C h,
+    )
+
+-- in use or not, a pair holds these bounds
+pub pair-bounds : (p : Pair) → (p ≡ unusedPair) ⊎ GoodPair p → PairBounds p
+pair-bounds p (inl e) =
+    rw e
+    (record { requests-most = omega arith; longest-total = omega arith; total-product = omega arith; total-most = omega arith })
+pair-bounds p (inr g) =
+    record {
+      requests-most = g .requests-most;
+      longest-total = g .longest-total;
+      total-product = g .total-product;
+      total-most = g .total-most;
+    }
+
+-- ---- one task
+
+pub task-good : (place : ℕ) (x : Task) → taskFault place x ≡ Fine → GoodTask x
+unfolding taskFault pairsFault
+task-good place x e =
+    let f = then-fine (timesFault place (x .period) (x .run) (x .deadline)) _ e in
+    let each = each-fine maxResources (pairFaultOf place x) (f .1) in
+    record {
+      times = times-good place _ _ _ (f .0);
+      pair = λ k h. pair-good place _ _ _ (each k h) .0;
+      totals = pair-good place (pairOf x 15) (sumTo 16 (totalOf x)) (x .run) (each 15 (omega arith)) .1;
+    }
+
+pub task-fine : (place : ℕ) (x : Task) → GoodTask x → taskFault place x ≡ Fine
+unfolding taskFault pairsFault
+task-fine place x g =
+    rw (times-fine place (x .period) (x .run) (x .deadline) (g .times))
+    (first-fine maxResources (pairFaultOf place x)
+    (λ k h. pair-fine place (pairOf x k) _ _ (g .pair k h) (le-trans (sum-rises (k + 1) maxResources (totalOf x) (omega arith)) (g .totals))))
+
+-- a pair's CT is at most the task's C
+pub total-run : (x : Task) (k : ℕ) → GoodTask x → k < maxResources → totalOf x k ≤ x .run
+total-run x k g h = le-trans (sum-part maxResources k (totalOf x) h) (g .totals)
+
+-- ---- the table
+
+pub fine-accepted : (t : Table) → tableFault t ≡ Fine → Accepted t
+unfolding tableFault tasksFault
+fine-accepted t e =
+    let a = then-fine (unless (leb 1 (t .n)) NoTask 0) _ e in
+    let b = then-fine (unless (leb (t .n) maxTasks) TooManyTasks 0) _ (a .1) in
+    let c = then-fine (unless (within 1 maxCpus (t .cpus)) OutOfRange 0) _ (b .1) in
+    let m = within-true 1 maxCpus (t .cpus) (unless-fine _ OutOfRange 0 (c .0)) in
+    record {
+      tasks-least = leb-true _ _ (unless-fine _ NoTask 0 (a .0));
+      tasks-most = leb-true _ _ (unless-fine _ TooManyTasks 0 (b .0));
+      cpus-least = m .0;
+      cpus-most = m .1;
+      task = λ i h. task-good (i + 1) (taskAt t i) (each-fine (t .n) (taskFaultAt t) (c .1) i h);
+    }
+
+pub accepted-fine : (t : Table) → Accepted t → tableFault t ≡ Fine
+unfolding tableFault tasksFault
+accepted-fine t a =
+    rw (
+      le-leb 1 (t .n) (a .tasks-least),
+      le-leb (t .n) maxTasks (a .tasks-most),
+      within-in 1 maxCpus (t .cpus) (a .cpus-least) (a .cpus-most),
+    )
+    (first-fine (t .n) (taskFaultAt t) (λ i h. task-fine (i + 1) (taskAt t i) (a .task i h)))

@@ -1,0 +1,10 @@
+-- Assumes nothing.
+use mathlib.Core.Path.{refl}
+use Rattle.basics.specs.Over.{sumTo}
+use Rattle.table.specs.Faults.{firstFault}
+use Rattle.table.specs.Rules.{timesInRange, timesInOrder, timesFault, isUnused, usedInRange, pairInRange, totalsFit, pairFault, pairsFault, taskFault, tasksFault, tableFault}
+use Rattle.table.specs.Cases.{cases, CasesHold}
+
+pub cases-hold : CasesHold
+unfolding cases sumTo firstFault timesInRange timesInOrder timesFault isUnused usedInRange pairInRange totalsFit pairFault pairsFault taskFault tasksFault tableFault
+cases-hold = refl

@@ -1,0 +1,7 @@
+pub mod Chain
+pub mod FirstLaws
+pub mod Product
+pub mod Acceptance
+pub mod Sameness
+pub mod CasesHold
+pub mod Determined

@@ -1,0 +1,24 @@
+-- `table::rules::pair_in_range` meets its contract. Assumes nothing.
+use borrow.Author.Tests.{eq-eqb, ne-eqb}
+use Rattle.table.specs.Rules.{pairInRange}
+use borrow.Author.Needs.{needs}
+use Rattle.table.proofs.rules.pair_in_range.Statement.{statement}
+use Rattle.table.proofs.rules.pair_in_range.Tie as tie
+
+is-unused-requires : tie.Need-is-unused-requires
+is-unused-requires c κs = search needs
+
+returns : tie.Need-returns
+unfolding pairInRange
+returns c = simp (eq-eqb _ _ (c .before .if1 .taken)) (c .is-unused .ensures)
+
+used-in-range-requires : tie.Need-used-in-range-requires
+used-in-range-requires c κs = search needs
+
+returns-2 : tie.Need-returns-2
+unfolding pairInRange
+returns-2 c = simp (ne-eqb _ _ (c .before .if1 .left)) (c .used-in-range .ensures)
+
+pub pair-in-range-spec : {M : Type 1} → statement M
+pair-in-range-spec =
+    tie.close (tie.spec is-unused-requires returns used-in-range-requires returns-2)

@@ -1,0 +1,46 @@
+-- Document 01, "Quantities", as bounds: what holds of a table that the check finds nothing against.
+use Prim.Native.Nat.{ℕ, _*_, _≤_, _<_}
+use mathlib.Core.Path.{_≡_}
+use mathlib.Core.Logic.{_⊎_}
+use Rattle.basics.specs.Over.{sumTo}
+use Rattle.table.specs.declared.Pair.{Pair}
+use Rattle.table.specs.declared.Task.{Task}
+use Rattle.table.specs.declared.Table.{Table}
+use Rattle.table.specs.Limits.{maxCpus, maxTasks, maxResources, maxTime, maxCount}
+use Rattle.table.specs.Empty.{unusedPair}
+use Rattle.table.specs.At.{taskAt, pairOf, totalOf}
+
+-- 1 ≤ C ≤ D ≤ T ≤ 10,000,000
+pub record GoodTimes (T C D : ℕ) : Type 0 where
+  pub run-least : 1 ≤ C
+  pub run-deadline : C ≤ D
+  pub deadline-period : D ≤ T
+  pub period-most : T ≤ maxTime
+
+-- a pair in use: 1 ≤ N ≤ 1,000, 1 ≤ c ≤ CT ≤ N × c, CT ≤ 10,000,000
+pub record GoodPair (p : Pair) : Type 0 where
+  pub requests-least : 1 ≤ p .requests
+  pub requests-most : p .requests ≤ maxCount
+  pub longest-least : 1 ≤ p .longest
+  pub longest-total : p .longest ≤ p .total
+  pub total-product : p .total ≤ p .requests * p .longest
+  pub total-most : p .total ≤ maxTime
+
+-- what a pair holds, in use or not
+pub record PairBounds (p : Pair) : Type 0 where
+  pub requests-most : p .requests ≤ maxCount
+  pub longest-total : p .longest ≤ p .total
+  pub total-product : p .total ≤ p .requests * p .longest
+  pub total-most : p .total ≤ maxTime
+
+pub record GoodTask (x : Task) : Type 0 where
+  pub times : GoodTimes (x .period) (x .run) (x .deadline)
+  pub pair : (k : ℕ) → k < maxResources → (pairOf x k ≡ unusedPair) ⊎ GoodPair (pairOf x k)
+  pub totals : sumTo maxResources (totalOf x) ≤ x .run
+
+pub record Accepted (t : Table) : Type 0 where
+  pub tasks-least : 1 ≤ t .n
+  pub tasks-most : t .n ≤ maxTasks
+  pub cpus-least : 1 ≤ t .cpus
+  pub cpus-most : t .cpus ≤ maxCpus
+  pub task : (i : ℕ) → i < t .n → GoodTask (taskAt t i)

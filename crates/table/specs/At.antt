@@ -1,0 +1,34 @@
+-- A task and a pair by index, counted from 0, and when two tables are the same.
+use Prim.Native.Nat.{ℕ, _<_}
+use mathlib.Core.Path.{_≡_}
+use mathlib.Core.List.{[]}
+use lib.ListN.{getD}
+use Rattle.table.specs.declared.Pair.{Pair}
+use Rattle.table.specs.declared.Task.{Task}
+use Rattle.table.specs.declared.Table.{Table}
+use Rattle.table.specs.Empty.{unusedPair}
+
+-- what the checker reads past a row's end, so that `taskAt t i` is the code's `t.tasks[i]`
+abbrev pub noTask : Task
+noTask = record { period = 0; run = 0; deadline = 0; pairs = [] }
+
+-- task i + 1 of the paper
+abbrev pub taskAt : Table → ℕ → Task
+taskAt t i = getD (t .tasks) i noTask
+
+-- resource k + 1 of a task
+abbrev pub pairOf : Task → ℕ → Pair
+pairOf x k = getD (x .pairs) k unusedPair
+
+abbrev pub pairAt : Table → ℕ → ℕ → Pair
+pairAt t i k = pairOf (taskAt t i) k
+
+-- CT of resource k + 1 of a task
+abbrev pub totalOf : Task → ℕ → ℕ
+totalOf x k = pairOf x k .total
+
+-- "Two tables are the same if processors, n and the first n tasks agree"
+pub record Same (a b : Table) : Type 0 where
+  pub cpus : a .cpus ≡ b .cpus
+  pub n : a .n ≡ b .n
+  pub tasks : (i : ℕ) → i < a .n → taskAt a i ≡ taskAt b i

@@ -1,0 +1,17 @@
+-- The empty table: no task, and zeros in every slot.
+use mathlib.Core.List.{[]}
+use lib.ListN.{replicate}
+use Rattle.table.specs.declared.Pair.{Pair}
+use Rattle.table.specs.declared.Task.{Task}
+use Rattle.table.specs.declared.Table.{Table}
+use Rattle.table.specs.Limits.{maxTasks, maxResources}
+
+-- "An unused pair has N, c and CT all 0"
+abbrev pub unusedPair : Pair
+unusedPair = record { requests = 0; longest = 0; total = 0 }
+
+unfoldable pub emptyTask : Task
+emptyTask = record { period = 0; run = 0; deadline = 0; pairs = replicate maxResources unusedPair }
+
+unfoldable pub emptyTable : Table
+emptyTable = record { cpus = 0; n = 0; tasks = replicate maxTasks emptyTask }

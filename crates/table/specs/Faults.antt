@@ -1,0 +1,47 @@
+-- Document 01, "Refusals by number": the number of each refusal, and how the first fault decides.
+use Prim.Native.Nat.{ℕ, zero, suc}
+use mathlib.Core.Bool.{Bool, true, false}
+use Rattle.table.specs.declared.Fault.{Fault}
+use Rattle.table.specs.declared.Fault.the-variants.{TooLong, BadForm, BadField, OutOfRange, BadTimes, NotRising, BadTotals, TooManyTasks, NoTask, UnknownTask, TooShort}
+use Rattle.table.specs.declared.Checked.{Checked}
+use Rattle.table.specs.declared.Checked.the-variants.{Fine, Refused}
+
+abbrev pub numberOf : Fault → ℕ
+-- listing longer than 65,536 bytes
+numberOf TooLong = 1
+-- line not of its form or place
+numberOf BadForm = 2
+-- a field badly formed
+numberOf BadField = 3
+-- a number outside its range, or an unused pair with a non-zero c or CT
+numberOf OutOfRange = 4
+-- C above D, or D above T
+numberOf BadTimes = 5
+-- K not above the K before it in the task
+numberOf NotRising = 6
+-- c ≤ CT ≤ N × c fails, or the CT so far sum above C
+numberOf BadTotals = 7
+-- more than 32 tasks
+numberOf TooManyTasks = 8
+-- no task
+numberOf NoTask = 9
+-- the task asked about is 0 or above n
+numberOf UnknownTask = 10
+-- output, or row of verdicts, too short
+numberOf TooShort = 11
+
+infixr 20 _then_
+-- the first fault decides
+abbrev pub _then_ : Checked → Checked → Checked
+Fine then b = b
+Refused r then b = Refused r
+
+-- the fault at the place, unless the test holds
+abbrev pub unless : Bool → Fault → ℕ → Checked
+unless true fault place = Fine
+unless false fault place = Refused (record { fault = fault; place = place })
+
+-- the first fault of f 0, f 1, .., f (n − 1)
+unfoldable pub firstFault : ℕ → (ℕ → Checked) → Checked
+firstFault zero f = Fine
+firstFault (suc n) f = firstFault n f then f n

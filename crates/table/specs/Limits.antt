@@ -1,0 +1,24 @@
+-- The limits of document 01, "Quantities". The function `limits` ties each to the constant of `Table`.
+use Prim.Native.Nat.{ℕ}
+
+-- processors
+abbrev pub maxCpus : ℕ
+maxCpus = 64
+
+abbrev pub maxTasks : ℕ
+maxTasks = 32
+
+abbrev pub maxResources : ℕ
+maxResources = 16
+
+-- any time, in microseconds
+abbrev pub maxTime : ℕ
+maxTime = 10_000_000
+
+-- request counts
+abbrev pub maxCount : ℕ
+maxCount = 1_000
+
+-- bytes of a listing
+abbrev pub maxListing : ℕ
+maxListing = 65_536
