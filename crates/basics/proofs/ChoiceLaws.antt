@@ -1,13 +1,13 @@
 -- The laws of a choice.
 -- Assumes nothing.
-use Prim.Native.Nat.{ℕ, _≤_}
+use Prim.Native.Nat.{ℕ, _≤_, _<_}
 use mathlib.Core.Path.{_≡_, refl, sym, _∙_}
-use mathlib.Core.Bool.{Bool, true, false, not, _&&_}
+use mathlib.Core.Bool.{Bool, true, false, not, _&&_, and-false}
 use native.Mathlib.Nat.{le-refl}
 use native.Mathlib.Omega.{arith}
-use borrow.Author.Tests.{leb-true, le-leb, not-true, not-false}
+use borrow.Author.Tests.{leb-true, le-leb, lt-leb, not-true, not-false}
 use lib.Dec.{leb}
-use Rattle.basics.specs.Choice.{only, within}
+use Rattle.basics.specs.Choice.{pick, only, within}
 
 -- what a call's answer r, and the branch `if !r` on it, say of the test b that the callee's contract names
 pub stops : {r b : Bool} → r ≡ b → not r ≡ true → b ≡ false
@@ -20,9 +20,20 @@ pub and-true : (a b : Bool) → (a && b) ≡ true → (a ≡ true) × (b ≡ tru
 and-true true b e = (refl, e)
 and-true false b e = (e, cc)
 
+-- the first of a choice may be replaced by what it equals where the test holds
+pub pick-when : {A : Type 0} {x y : A} (z : A) (b : Bool) → (b ≡ true → x ≡ y) → pick b x z ≡ pick b y z
+pick-when z true h = h refl
+pick-when z false h = refl
+
 -- from low to high, as a test and as a fact
 pub within-in : (low high x : ℕ) → low ≤ x → x ≤ high → within low high x ≡ true
 within-in low high x l h = rw (le-leb low x l, le-leb x high h)
+
+pub within-low : (low high x : ℕ) → x < low → within low high x ≡ false
+within-low low high x l = rw (lt-leb low x l)
+
+pub within-high : (low high x : ℕ) → high < x → within low high x ≡ false
+within-high low high x h = rw (lt-leb x high h, and-false)
 
 pub within-true : (low high x : ℕ) → within low high x ≡ true → (low ≤ x) × (x ≤ high)
 within-true low high x e =

@@ -1,9 +1,9 @@
 -- The laws of the sum, the largest value and the first index over the indices below n.
 -- Assumes nothing.
 use Prim.Native.Nat.{ℕ, zero, suc, _+_, _*_, _≤_, _<_, max}
-use mathlib.Core.Path.{_≡_, refl, ap, _∙_, subst}
-use mathlib.Core.Bool.{Bool, true, false}
-use native.Mathlib.Nat.{le-refl, not-suc-le-zero}
+use mathlib.Core.Path.{_≡_, refl, sym, ap, ap₂, _∙_, subst}
+use mathlib.Core.Bool.{Bool, true, false, _||_}
+use native.Mathlib.Nat.{le-refl, not-suc-le-zero, zero-add}
 use native.Mathlib.Numerals.{add-one}
 use native.Mathlib.Decide.{ℕ-discrete}
 use native.Mathlib.Omega.{arith}
@@ -57,6 +57,29 @@ unfolding sumTo
 sum-add zero g h = refl
 sum-add (suc n) g h = omega (arith, sum-add n g h)
 
+-- nothing from m on, so the sum stays
+pub sum-rest : (m n : ℕ) (g : ℕ → ℕ) → m ≤ n → ((k : ℕ) → m ≤ k → g k ≡ 0) → sumTo n g ≡ sumTo m g
+unfolding sumTo
+sum-rest m zero g h z = let e : m ≡ 0 = omega arith in rw e
+sum-rest m (suc n) g h z = go (ℕ-discrete m (suc n)) (λ l. sum-rest m n g l z)
+  where
+    go : Dec (m ≡ suc n) → (m ≤ n → sumTo n g ≡ sumTo m g) → sumTo (suc n) g ≡ sumTo m g
+    go (yes e) ih = rw e
+    go (no d) ih = omega (arith, ih (omega arith), z n (omega arith))
+
+-- a sum is something exactly if a value is
+plus-some : (a b : ℕ) → ltb 0 (a + b) ≡ (ltb 0 a || ltb 0 b)
+plus-some zero b = rw zero-add
+plus-some (suc a) b = rw (lt-ltb 0 (suc a + b) (omega arith), lt-ltb 0 (suc a) (omega arith))
+
+pub sum-some : (n : ℕ) (g h : ℕ → ℕ) → ((k : ℕ) → k < n → ltb 0 (g k) ≡ ltb 0 (h k)) → ltb 0 (sumTo n g) ≡ ltb 0 (sumTo n h)
+unfolding sumTo
+sum-some zero g h eq = refl
+sum-some (suc n) g h eq =
+    plus-some (sumTo n g) (g n)
+    ∙ ap₂ _||_ (sum-some n g h (λ k l. eq k (omega arith))) (eq n (le-refl (suc n)))
+    ∙ sym (plus-some (sumTo n h) (h n))
+
 -- ---- the largest value
 
 pub max-none : (g : ℕ → ℕ) → 0 ≡ maxTo 0 g
@@ -71,6 +94,22 @@ pub max-bound : (n b : ℕ) (g : ℕ → ℕ) → ((k : ℕ) → k < n → g k �
 unfolding maxTo
 max-bound zero b g le = omega arith
 max-bound (suc n) b g le = omega (arith, max-bound n b g (λ k l. le k (omega arith)), le n (le-refl (suc n)))
+
+-- nowhere larger, so the largest is no larger
+pub max-le : (n : ℕ) (g h : ℕ → ℕ) → ((k : ℕ) → k < n → g k ≤ h k) → maxTo n g ≤ maxTo n h
+unfolding maxTo
+max-le zero g h le = le-refl 0
+max-le (suc n) g h le = omega (arith, max-le n g h (λ k l. le k (omega arith)), le n (le-refl (suc n)))
+
+-- over more indices, no smaller
+pub max-rises : (m n : ℕ) (g : ℕ → ℕ) → m ≤ n → maxTo m g ≤ maxTo n g
+unfolding maxTo
+max-rises m zero g h = let e : m ≡ 0 = omega arith in rw e (le-refl 0)
+max-rises m (suc n) g h = go (ℕ-discrete m (suc n)) (λ l. max-rises m n g l)
+  where
+    go : Dec (m ≡ suc n) → (m ≤ n → maxTo m g ≤ maxTo n g) → maxTo m g ≤ maxTo (suc n) g
+    go (yes e) ih = rw e (le-refl (maxTo (suc n) g))
+    go (no d) ih = omega (arith, ih (omega arith))
 
 -- ---- the first index
 
@@ -102,3 +141,33 @@ first-found (suc n) l p h e f = go (ℕ-discrete l n) (λ k. first-found n l p k
     go : Dec (l ≡ n) → (l < n → firstTo n p ≡ l) → firstTo (suc n) p ≡ l
     go (yes d) ih = subst (λ (m : ℕ). firstTo (suc m) p ≡ l) d (here l p e f)
     go (no d) ih = earlier n l p (omega arith) (ih (omega arith))
+
+-- what the first index below n is: nothing is found before it, and it is found itself if it is below n
+pub record First (n : ℕ) (p : ℕ → Bool) (f : ℕ) : Type 0 where
+  pub upto : f ≤ n
+  pub clear : (j : ℕ) → j < f → p j ≡ false
+  pub found : f < n → p f ≡ true
+
+clear-more : (n j : ℕ) (p : ℕ → Bool) → ((j : ℕ) → j < n → p j ≡ false) → p n ≡ false → j < suc n → Dec (j ≡ n) → p j ≡ false
+clear-more n j p h e k (yes d) = rw d e
+clear-more n j p h e k (no d) = h j (omega arith)
+
+first-step : (n f : ℕ) (p : ℕ → Bool) → firstTo n p ≡ f → First n p f → Dec (f ≡ n) → (b : Bool) → p n ≡ b
+    → First (suc n) p (firstTo (suc n) p)
+first-step n f p e w (no d) b q =
+    let l : f < n = omega (arith, w .upto) in
+    rw (earlier n f p l e) (record { upto = omega arith; clear = w .clear; found = λ _. w .found l })
+first-step n f p e w (yes d) true q =
+    rw (here n p (e ∙ d) q) (record { upto = omega arith; clear = λ j k. w .clear j (omega arith); found = λ _. q })
+first-step n f p e w (yes d) false q =
+    rw (← add-one, first-more n p (e ∙ d) q, add-one)
+    (record {
+      upto = le-refl (suc n);
+      clear = λ j k. clear-more n j p (λ j l. w .clear j (omega arith)) q k (ℕ-discrete j n);
+      found = λ k. absurd (omega (arith, k));
+    })
+
+pub first-is : (n : ℕ) (p : ℕ → Bool) → First n p (firstTo n p)
+unfolding firstTo
+first-is zero p = record { upto = le-refl 0; clear = λ j k. absurd (not-suc-le-zero k); found = λ k. absurd (not-suc-le-zero k) }
+first-is (suc n) p = first-step n (firstTo n p) p refl (first-is n p) (ℕ-discrete (firstTo n p) n) (p n) refl

@@ -4,3 +4,7 @@ use mathlib.Core.Path.{_≡_}
 
 abbrev pub Determined : {A R X : Type 0} → (A → R → X → Type 0) → Type 0
 Determined {A} {R} {X} learnt = (a : A) (x y : X) (r s : R) → learnt a r x → learnt a s y → r ≡ s
+
+-- when it determines the answer and, of what lies at exit behind the arguments that are lent to be changed, the part `held`
+abbrev pub DeterminedWith : {A R X H : Type 0} → (X → H) → (A → R → X → Type 0) → Type 0
+DeterminedWith {A} {R} {X} {H} held learnt = (a : A) (x y : X) (r s : R) → learnt a r x → learnt a s y → (r ≡ s) × (held x ≡ held y)

@@ -1,6 +1,7 @@
 -- "Over the tasks", "over the resources": each is over the indices 0, 1, .., n − 1.
 use Prim.Native.Nat.{ℕ, zero, suc, _+_, max}
 use mathlib.Core.Bool.{Bool}
+use mathlib.Core.List.{List, [], _++_}
 use lib.Dec.{ltb}
 use Rattle.basics.specs.Choice.{pick}
 
@@ -18,3 +19,8 @@ maxTo (suc n) g = max (maxTo n g) (g n)
 unfoldable pub firstTo : ℕ → (ℕ → Bool) → ℕ
 firstTo zero p = 0
 firstTo (suc n) p = pick (ltb (firstTo n p) n) (firstTo n p) (pick (p n) n (suc n))
+
+-- f 0, .., f (n − 1), one after the other
+unfoldable pub joinTo : {A : Type 0} → ℕ → (ℕ → List A) → List A
+joinTo zero f = []
+joinTo (suc n) f = joinTo n f ++ f n

@@ -1,10 +1,17 @@
--- A text as its bytes, so that a definition can show the listing that it speaks of.
+-- A text as its bytes, so that a definition can show the listing that it speaks of; and a text put into an output.
 use Prim.Native.Nat.{ℕ}
 use Prim.Native.Char.{code}
 use Prim.Native.String.{String, [] as empty, _∷_ as _before_}
-use mathlib.Core.List.{List, [], _∷_}
+use mathlib.Core.List.{List, [], _∷_, _++_}
+use lib.ListN.{length, drop}
+use lib.Dec.{leb}
+use Rattle.basics.specs.Choice.{pick}
 
 -- each of the text's characters is one byte
 abbrev pub bytes : String → List ℕ
 bytes empty = []
 bytes (c before s) = code c ∷ bytes s
+
+-- an output that holds `out`, once a text is put at its start: past the text it is as it was, and where it is too short all of it is
+abbrev pub putInto : List ℕ → List ℕ → List ℕ
+putInto text out = pick (leb (length text) (length out)) (text ++ drop (length text) out) out

@@ -1,31 +1,68 @@
 -- "The same" is an equivalence of tables, and the check cannot tell two tables apart that are the same.
 -- Assumes nothing.
-use Prim.Native.Nat.{ℕ, _+_, _<_}
-use mathlib.Core.Path.{_≡_, refl, sym, ap, _∙_, subst}
+use Prim.Native.Nat.{ℕ, _+_, _≤_, _<_}
+use mathlib.Core.Path.{_≡_, refl, sym, ap, _∙_}
+use native.Mathlib.Omega.{arith}
+use Rattle.basics.specs.Over.{sumTo}
+use Rattle.basics.proofs.OverLaws.{sum-eq}
+use Rattle.table.specs.declared.Pair.{Pair}
 use Rattle.table.specs.declared.Task.{Task}
 use Rattle.table.specs.declared.Table.{Table}
-use Rattle.table.specs.At.{taskAt, Same}
+use Rattle.table.specs.Limits.{maxResources}
+use Rattle.table.specs.At.{taskAt, totalOf, SameTask, Same}
 use Rattle.table.specs.Faults.{firstFault}
-use Rattle.table.specs.Rules.{taskFault, taskFaultAt, tasksFault, tableFault}
+use Rattle.table.specs.Rules.{pairFaultOf, pairsFault, taskFault, taskFaultAt, tasksFault, tableFault}
 use Rattle.table.proofs.FirstLaws.{first-same}
 
 pub same-refl : (a : Table) → Same a a
-same-refl a = record { cpus = refl; n = refl; tasks = λ i h. refl }
+same-refl a =
+    record {
+      cpus = refl;
+      n = refl;
+      tasks = λ i h. record { period = refl; run = refl; deadline = refl; pairs = λ k l. refl };
+    }
+
+task-sym : (x y : Task) → SameTask x y → SameTask y x
+task-sym x y s =
+    record { period = sym (s .period); run = sym (s .run); deadline = sym (s .deadline); pairs = λ k l. sym (s .pairs k l) }
 
 pub same-sym : (a b : Table) → Same a b → Same b a
-same-sym a b s = record { cpus = sym (s .cpus); n = sym (s .n); tasks = λ i h. sym (s .tasks i (rw (s .n) h)) }
+same-sym a b s =
+    record { cpus = sym (s .cpus); n = sym (s .n); tasks = λ i h. task-sym _ _ (s .tasks i (rw (s .n) h)) }
+
+task-trans : (x y z : Task) → SameTask x y → SameTask y z → SameTask x z
+task-trans x y z s t =
+    record {
+      period = s .period ∙ t .period;
+      run = s .run ∙ t .run;
+      deadline = s .deadline ∙ t .deadline;
+      pairs = λ k l. s .pairs k l ∙ t .pairs k l;
+    }
 
 pub same-trans : (a b c : Table) → Same a b → Same b c → Same a c
 same-trans a b c s t =
     record {
       cpus = s .cpus ∙ t .cpus;
       n = s .n ∙ t .n;
-      tasks = λ i h. s .tasks i h ∙ t .tasks i (rw (s .n) at h);
+      tasks = λ i h. task-trans _ _ _ (s .tasks i h) (t .tasks i (rw (s .n) at h));
     }
+
+sum-same : (x y : Task) → SameTask x y → (n : ℕ) → n ≤ maxResources → sumTo n (totalOf x) ≡ sumTo n (totalOf y)
+sum-same x y s n h = sum-eq n _ _ (λ k l. ap (λ (p : Pair). p .total) (s .pairs k (omega arith)))
+
+pairs-same : (place : ℕ) (x y : Task) → SameTask x y → pairsFault place x ≡ pairsFault place y
+unfolding pairsFault
+pairs-same place x y s =
+    first-same maxResources (pairFaultOf place x) (pairFaultOf place y)
+    (λ k h. rw (s .pairs k h, sum-same x y s (k + 1) (omega arith), s .run))
+
+pub task-same : (place : ℕ) (x y : Task) → SameTask x y → taskFault place x ≡ taskFault place y
+unfolding taskFault
+task-same place x y s = rw (pairs-same place x y s, s .period, s .run, s .deadline)
 
 pub same-fault : (a b : Table) → Same a b → tableFault a ≡ tableFault b
 unfolding tableFault tasksFault
 same-fault a b s =
     let e : firstFault (a .n) (taskFaultAt a) ≡ firstFault (b .n) (taskFaultAt b) =
-    rw (s .n) (first-same (b .n) (taskFaultAt a) (taskFaultAt b) (λ i h. ap (taskFault (i + 1)) (s .tasks i (rw (s .n) h)))) in
+    rw (s .n) (first-same (b .n) (taskFaultAt a) (taskFaultAt b) (λ i h. task-same (i + 1) _ _ (s .tasks i (rw (s .n) h)))) in
     rw (e, s .cpus, s .n)

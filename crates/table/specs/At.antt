@@ -6,6 +6,7 @@ use lib.ListN.{getD}
 use Rattle.table.specs.declared.Pair.{Pair}
 use Rattle.table.specs.declared.Task.{Task}
 use Rattle.table.specs.declared.Table.{Table}
+use Rattle.table.specs.Limits.{maxResources}
 use Rattle.table.specs.Empty.{unusedPair}
 
 -- what the checker reads past a row's end, so that `taskAt t i` is the code's `t.tasks[i]`
@@ -28,7 +29,13 @@ abbrev pub totalOf : Task → ℕ → ℕ
 totalOf x k = pairOf x k .total
 
 -- "Two tables are the same if processors, n and the first n tasks agree"
+pub record SameTask (x y : Task) : Type 0 where
+  pub period : x .period ≡ y .period
+  pub run : x .run ≡ y .run
+  pub deadline : x .deadline ≡ y .deadline
+  pub pairs : (k : ℕ) → k < maxResources → pairOf x k ≡ pairOf y k
+
 pub record Same (a b : Table) : Type 0 where
   pub cpus : a .cpus ≡ b .cpus
   pub n : a .n ≡ b .n
-  pub tasks : (i : ℕ) → i < a .n → taskAt a i ≡ taskAt b i
+  pub tasks : (i : ℕ) → i < a .n → SameTask (taskAt a i) (taskAt b i)
