@@ -1,0 +1,185 @@
+-- A number read where a text runs on past its field is the number of the field alone, and its width is the field's length.
+-- Assumes nothing.
+use Prim.Native.Nat.{ℕ, _+_, _≤_}
+use mathlib.Core.Path.{_≡_, refl, sym, ap, _∙_}
+use mathlib.Core.Bool.{Bool, true, false, _&&_, false≢true, true≢false}
+use mathlib.Core.List.{List, [], _∷_, _++_, append-nil}
+use native.Mathlib.Omega.{arith}
+use lib.ListN.{length, drop, length-append}
+use lib.Seq.{drop-drop, drop-append-seam}
+use lib.Dec.{eqb}
+use borrow.Author.Tests.{eqb-true, ne-eqb}
+use Rattle.basics.specs.Choice.{pick, within}
+use Rattle.basics.proofs.ChoiceLaws.{and-true, pick-when, within-true}
+use Rattle.field.specs.declared.Field.{Field}
+use Rattle.field.specs.declared.Field.the-variants.{Value, Bad}
+use Rattle.field.specs.Number.{isDigit, digits, number, apart, first, ends, point, micros, fraction, timeField, countField}
+
+-- a digit parts no fields
+pub digit-in : (b : ℕ) → isDigit b ≡ true → apart b ≡ false
+digit-in b e =
+    let h = within-true 48 57 b e in
+    rw (ne-eqb b 32 (λ q. omega arith), ne-eqb b 10 (λ q. omega arith))
+
+-- ---- the field that a text starts with
+
+pub ends-first : (s : List ℕ) → ends (first s) ≡ ends s
+ends-first [] = refl
+ends-first (b ∷ s) = go (apart b) refl
+  where
+    go : (t : Bool) → apart b ≡ t → ends (pick t [] (b ∷ first s)) ≡ apart b
+    go true e = sym e
+    go false e = refl
+
+pub first-none : (s : List ℕ) → ends s ≡ true → first s ≡ []
+first-none [] e = refl
+first-none (b ∷ s) e = rw e
+
+pub first-point : (s : List ℕ) → point s ≡ true → first s ≡ 46 ∷ first (drop 1 s)
+first-point [] e = absurd (false≢true e)
+first-point (b ∷ s) e = rw (eqb-true b 46 e)
+
+point-first : (s : List ℕ) → point (first s) ≡ point s
+point-first [] = refl
+point-first (b ∷ s) = go (apart b) refl
+  where
+    go : (t : Bool) → apart b ≡ t → point (pick t [] (b ∷ first s)) ≡ eqb b 46
+    go true e = sym (ne-eqb b 46 (λ q. true≢false (sym e ∙ ap apart q)))
+    go false e = refl
+
+pub first-digits : (s : List ℕ) → digits (first s) ≡ digits s
+first-digits [] = refl
+first-digits (b ∷ s) = go (isDigit b) refl (first-digits s)
+  where
+    go : (t : Bool) → isDigit b ≡ t → digits (first s) ≡ digits s → digits (first (b ∷ s)) ≡ pick t (b ∷ digits s) []
+    go true e ih = rw (digit-in b e, e, ih)
+    go false e ih = other (apart b)
+      where
+        other : (u : Bool) → digits (pick u [] (b ∷ first s)) ≡ []
+        other true = refl
+        other false = rw e
+
+-- the digits, and then what the field has after them
+pub first-split : (s : List ℕ) → first s ≡ digits s ++ first (drop (length (digits s)) s)
+first-split [] = refl
+first-split (b ∷ s) = go (isDigit b) refl (first-split s)
+  where
+    go : (t : Bool) → isDigit b ≡ t → first s ≡ digits s ++ first (drop (length (digits s)) s) → first (b ∷ s) ≡ pick t (b ∷ digits s) [] ++ first (drop (length (pick t (b ∷ digits s) [])) (b ∷ s))
+    go true e ih = rw (digit-in b e) (ap (λ (l : List ℕ). b ∷ l) ih)
+    go false e ih = refl
+
+pub first-rest : (s : List ℕ) → drop (length (digits s)) (first s) ≡ first (drop (length (digits s)) s)
+first-rest s = ap (drop (length (digits s))) (first-split s) ∙ drop-append-seam (digits s) _
+
+pub first-length : (s : List ℕ) → length (first s) ≡ length (digits s) + length (first (drop (length (digits s)) s))
+first-length s = ap length (first-split s) ∙ length-append (digits s) _
+
+-- ---- the field alone
+
+fraction-first : (v at : ℕ) (s : List ℕ) → fraction v at (first s) ≡ fraction v at s
+unfolding fraction
+fraction-first v at s = rw (first-digits s, first-rest s, ends-first (drop (length (digits s)) s))
+
+pub count-first : (s : List ℕ) → countField (first s) ≡ countField s
+unfolding countField
+count-first s = rw (first-digits s, first-rest s, ends-first (drop (length (digits s)) s))
+
+past-point : (s : List ℕ) (n : ℕ) → drop n (first s) ≡ first (drop n s) → point (drop n s) ≡ true → drop (n + 1) (first s) ≡ first (drop (n + 1) s)
+past-point s n e p =
+    sym (drop-drop 1 n (first s)) ∙ ap (drop 1) (e ∙ first-point (drop n s) p) ∙ ap first (drop-drop 1 n s)
+
+pub time-first : (s : List ℕ) → timeField (first s) ≡ timeField s
+unfolding timeField
+time-first s =
+    let n = length (digits s) in
+    let r = drop n s in
+    let v = number 0 (digits s) in
+    rw (first-digits s, first-rest s, ends-first (drop (length (digits s)) s), point-first (drop (length (digits s)) s))
+    (ap (λ (x : Field). pick (within 1 5 n) (pick (ends r) (Value (micros v []) n) x) Bad)
+    (pick-when Bad (point r) (λ p. ap (fraction v (n + 1)) (past-point s n (first-rest s) p) ∙ fraction-first v (n + 1) (drop (n + 1) s))))
+
+-- ---- what a field is that reads as a number
+
+-- where a choice against `Bad` gives a value, its test passed
+pick-value : (b : Bool) (x : Field) (v n : ℕ) → pick b x Bad ≡ Value v n → (b ≡ true) × (x ≡ Value v n)
+pick-value true x v n e = (refl, e)
+pick-value false x v n e = let z : _≡_ {A = ℕ} 0 1 = cc in absurd (omega arith)
+
+-- one to k digits, and no more
+pub record AllDigits (k : ℕ) (s : List ℕ) : Type 0 where
+  pub all : first s ≡ digits s
+  pub some : 1 ≤ length (digits s)
+  pub few : length (digits s) ≤ k
+
+all-here : (s : List ℕ) → ends (drop (length (digits s)) s) ≡ true → first s ≡ digits s
+all-here s e = first-split s ∙ ap (λ (l : List ℕ). digits s ++ l) (first-none (drop (length (digits s)) s) e) ∙ append-nil (digits s)
+
+all-digits : (k : ℕ) (s : List ℕ) (x : Field) (v n : ℕ) → pick (within 1 k (length (digits s)) && ends (drop (length (digits s)) s)) x Bad ≡ Value v n → AllDigits k s × (x ≡ Value v n)
+all-digits k s x v n e =
+    let p = pick-value (within 1 k (length (digits s)) && ends (drop (length (digits s)) s)) x v n e in
+    let q = and-true (within 1 k (length (digits s))) (ends (drop (length (digits s)) s)) (p .0) in
+    let b = within-true 1 k (length (digits s)) (q .0) in
+    (record { all = all-here s (q .1); some = b .0; few = b .1 }, p .1)
+
+pub count-read : (s : List ℕ) (v n : ℕ) → countField s ≡ Value v n → AllDigits 4 s × (Value (number 0 (digits s)) (length (digits s)) ≡ Value v n)
+unfolding countField
+count-read s v n e = all-digits 4 s (Value (number 0 (digits s)) (length (digits s))) v n e
+
+fraction-read : (u at : ℕ) (s : List ℕ) (v n : ℕ) → fraction u at s ≡ Value v n → AllDigits 3 s × (Value (micros u (digits s)) (at + length (digits s)) ≡ Value v n)
+unfolding fraction
+fraction-read u at s v n e = all-digits 3 s (Value (micros u (digits s)) (at + length (digits s))) v n e
+
+-- one to five digits, or those, a point and one to three digits, which f starts with
+pub data TimeRead (s : List ℕ) (v n : ℕ) : Type 0 where
+  read-whole : AllDigits 5 s → Value (micros (number 0 (digits s)) []) (length (digits s)) ≡ Value v n → TimeRead s v n
+  read-pointed : {f : List ℕ} → (1 ≤ length (digits s)) × (length (digits s) ≤ 5) → first s ≡ digits s ++ (46 ∷ digits f) → AllDigits 3 f
+      → Value (micros (number 0 (digits s)) (digits f)) (length (digits s) + 1 + length (digits f)) ≡ Value v n → TimeRead s v n
+
+pub time-read : (s : List ℕ) (v n : ℕ) → timeField s ≡ Value v n → TimeRead s v n
+unfolding timeField
+time-read s v n e = go (ends r) refl (p .1)
+  where
+    m : ℕ
+    m = length (digits s)
+
+    r : List ℕ
+    r = drop m s
+
+    f : List ℕ
+    f = drop (m + 1) s
+
+    after : Field
+    after = pick (point r) (fraction (number 0 (digits s)) (m + 1) f) Bad
+
+    p : (within 1 5 m ≡ true) × (pick (ends r) (Value (micros (number 0 (digits s)) []) m) after ≡ Value v n)
+    p = pick-value (within 1 5 m) (pick (ends r) (Value (micros (number 0 (digits s)) []) m) after) v n e
+
+    b : (1 ≤ m) × (m ≤ 5)
+    b = within-true 1 5 m (p .0)
+
+    go : (t : Bool) → ends r ≡ t → pick t (Value (micros (number 0 (digits s)) []) m) after ≡ Value v n → TimeRead s v n
+    go true d q = read-whole (record { all = all-here s d; some = b .0; few = b .1 }) q
+    go false d q =
+        let h = pick-value (point r) (fraction (number 0 (digits s)) (m + 1) f) v n q in
+        let l = fraction-read (number 0 (digits s)) (m + 1) f v n (h .1) in
+        let a = first-point r (h .0) ∙ ap (λ (x : List ℕ). 46 ∷ first x) (drop-drop 1 m s) ∙ ap (λ (x : List ℕ). 46 ∷ x) (l .0 .all) in
+        read-pointed {f = f} b (first-split s ∙ ap (λ (x : List ℕ). digits s ++ x) a) (l .0) (l .1)
+
+-- ---- the width
+
+pub count-width : (s : List ℕ) (v n : ℕ) → countField s ≡ Value v n → (n ≡ length (first s)) × (n ≤ 4)
+count-width s v n e =
+    let r = count-read s v n e in
+    let q : n ≡ length (digits s) = cc in
+    omega (arith, r .0 .few, ap length (r .0 .all))
+
+pub time-width : (s : List ℕ) (v n : ℕ) → timeField s ≡ Value v n → (n ≡ length (first s)) × (n ≤ 9)
+time-width s v n e = go (time-read s v n e)
+  where
+    go : TimeRead s v n → (n ≡ length (first s)) × (n ≤ 9)
+    go (read-whole r z) =
+        let q : n ≡ length (digits s) = cc in
+        omega (arith, ap length (r .all))
+    go (read-pointed {f} b a r z) =
+        let q : n ≡ length (digits s) + 1 + length (digits f) = cc in
+        omega (arith, ap length a, length-append (digits s) (46 ∷ digits f))

@@ -1,0 +1,117 @@
+-- The meaning said twice (specs/Spelling.antt) agrees: a field reads as v exactly if it states v.
+-- Assumes nothing.
+use Prim.Native.Nat.{ℕ, _+_, _-_, _*_, _^_, _≤_}
+use mathlib.Core.Path.{_≡_, refl, sym, ap, _∙_}
+use mathlib.Core.Bool.{Bool, true, false}
+use mathlib.Core.List.{List, [], _∷_, _++_, append-nil, append-assoc}
+use native.Mathlib.Omega.{arith}
+use native.Mathlib.Nat.{pow-succ', mul-assoc, add-mul}
+use lib.ListN.{length, length-append}
+use lib.Seq.{drop-length, drop-append-seam, drop-append-add}
+use Rattle.basics.specs.Choice.{pick}
+use Rattle.basics.proofs.ChoiceLaws.{within-in}
+use Rattle.field.specs.declared.Field.the-variants.{Value}
+use Rattle.field.specs.Number.{isDigit, digits, number, first, ends, micros, fraction, timeField, countField}
+use Rattle.field.specs.Spelling.{Digits, none, one, valueOf, DigitsTo, StatesTime, whole, pointed, StatesCount}
+use Rattle.field.proofs.Laws.{padded-number, micros-whole}
+use Rattle.field.proofs.Fields.{digit-in, first-none, count-first, time-first, AllDigits, count-read, TimeRead, read-whole, read-pointed, time-read}
+
+-- ---- the number
+
+number-value : (a : ℕ) (w : List ℕ) → number a w ≡ a * 10 ^ length w + valueOf w
+unfolding valueOf
+number-value a [] = omega arith
+number-value a (d ∷ w) = number-value (a * 10 + (d - 48)) w ∙ rw (pow-succ' 10 (length w), add-mul (a * 10) (d - 48) (10 ^ length w), mul-assoc a 10 (10 ^ length w)) (omega arith)
+
+pub value-number : (w : List ℕ) → number 0 w ≡ valueOf w
+value-number w = number-value 0 w ∙ omega arith
+
+-- ---- digits
+
+pub digits-are : (s : List ℕ) → Digits (digits s)
+digits-are [] = none
+digits-are (b ∷ s) = go (isDigit b) refl (digits-are s)
+  where
+    go : (t : Bool) → isDigit b ≡ t → Digits (digits s) → Digits (pick t (b ∷ digits s) [])
+    go true e ih = one e ih
+    go false e ih = none
+
+pub digits-all : (w z : List ℕ) → Digits w → digits z ≡ [] → digits (w ++ z) ≡ w
+digits-all [] z none e = e
+digits-all (b ∷ w) z (one d r) e = rw (d, digits-all w z r e)
+
+digits-whole : (w : List ℕ) → Digits w → digits w ≡ w
+digits-whole w d = sym (ap digits (append-nil w)) ∙ digits-all w [] d refl
+
+digits-first : (w z : List ℕ) → Digits w → first (w ++ z) ≡ w ++ first z
+digits-first [] z none = refl
+digits-first (b ∷ w) z (one d r) = rw (digit-in b d, digits-first w z r)
+
+digits-to : (k : ℕ) (s : List ℕ) → AllDigits k s → DigitsTo k (digits s)
+digits-to k s a = record { digits = digits-are s; some = a .some; few = a .few }
+
+-- ---- what reads as v states v
+
+pub count-states : (s : List ℕ) (v n : ℕ) → countField s ≡ Value v n → StatesCount (first s) v
+count-states s v n e =
+    let r = count-read s v n e in
+    let q : v ≡ number 0 (digits s) = cc in
+    rw (r .0 .all) (record { digits = digits-to 4 s (r .0); value = q ∙ value-number (digits s) })
+
+pub time-states : (s : List ℕ) (v n : ℕ) → timeField s ≡ Value v n → StatesTime (first s) v
+time-states s v n e = go (time-read s v n e)
+  where
+    go : TimeRead s v n → StatesTime (first s) v
+    go (read-whole a z) =
+        let q : v ≡ valueOf (digits s) * 1000 = cc (micros-whole (number 0 (digits s)), value-number (digits s)) in
+        rw (a .all) (whole (digits-to 5 s a) q)
+    go (read-pointed {f} b a r z) =
+        let q : v ≡ valueOf (digits s) * 1000 + valueOf (digits f) * 10 ^ (3 - length (digits f)) = cc (padded-number (number 0 (digits s)) (digits f) (r .some) (r .few), value-number (digits s), value-number (digits f)) in
+        rw a (pointed (record { digits = digits-are s; some = b .0; few = b .1 }) (digits-to 3 f r) q)
+
+-- ---- what states v reads as v
+
+count-of : (w : List ℕ) (v : ℕ) → StatesCount w v → countField w ≡ Value v (length w)
+unfolding countField
+count-of w v c =
+    let d = c .digits in
+    rw (digits-whole w (d .digits), drop-length w, within-in 1 4 (length w) (d .some) (d .few), value-number w, c .value)
+
+pub states-count : (s : List ℕ) (v : ℕ) → StatesCount (first s) v → countField s ≡ Value v (length (first s))
+states-count s v c = sym (count-first s) ∙ count-of (first s) v c
+
+fraction-of : (u at : ℕ) (f : List ℕ) → DigitsTo 3 f → fraction u at f ≡ Value (micros u f) (at + length f)
+unfolding fraction
+fraction-of u at f d = rw (digits-whole f (d .digits), drop-length f, within-in 1 3 (length f) (d .some) (d .few))
+
+time-of : (w : List ℕ) (v : ℕ) → StatesTime w v → timeField w ≡ Value v (length w)
+unfolding timeField
+time-of w v (whole d e) =
+    rw (digits-whole w (d .digits), drop-length w, within-in 1 5 (length w) (d .some) (d .few), micros-whole (number 0 w), value-number w, e)
+time-of _ v (pointed {w} {f} d g e) =
+    rw (digits-all w (46 ∷ f) (d .digits) refl, drop-append-seam w (46 ∷ f), drop-append-add w (46 ∷ f) 1, within-in 1 5 (length w) (d .some) (d .few), fraction-of (number 0 w) (length w + 1) f g)
+    (rw (padded-number (number 0 w) f (g .some) (g .few), value-number w, value-number f, ← e, length-append w (46 ∷ f))
+    (ap (Value v) (omega arith)))
+
+pub states-time : (s : List ℕ) (v : ℕ) → StatesTime (first s) v → timeField s ≡ Value v (length (first s))
+states-time s v t = sym (time-first s) ∙ time-of (first s) v t
+
+-- ---- a field that is joined to a text
+
+digits-alone : (w z : List ℕ) → Digits w → ends z ≡ true → first (w ++ z) ≡ w
+digits-alone w z d e = digits-first w z d ∙ rw (first-none z e) (append-nil w)
+
+pub no-apart-count : (w : List ℕ) (v : ℕ) → StatesCount w v → (z : List ℕ) → ends z ≡ true → first (w ++ z) ≡ w
+no-apart-count w v c z e = digits-alone w z (c .digits .digits) e
+
+pub no-apart-time : (w : List ℕ) (v : ℕ) → StatesTime w v → (z : List ℕ) → ends z ≡ true → first (w ++ z) ≡ w
+no-apart-time w v (whole d q) z e = digits-alone w z (d .digits) e
+no-apart-time _ v (pointed {w} {f} d g q) z e =
+    rw (append-assoc w (46 ∷ f) z, digits-first w (46 ∷ (f ++ z)) (d .digits), digits-alone f z (g .digits) e)
+
+pub some-count : (w : List ℕ) (v : ℕ) → StatesCount w v → 1 ≤ length w
+some-count w v c = c .digits .some
+
+pub some-time : (w : List ℕ) (v : ℕ) → StatesTime w v → 1 ≤ length w
+some-time w v (whole d q) = d .some
+some-time _ v (pointed {w} {f} d g q) = omega (arith, length-append w (46 ∷ f))

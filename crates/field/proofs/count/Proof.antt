@@ -1,0 +1,55 @@
+-- `field::count` meets its contract: each `return` is a law of `countField`. Assumes nothing.
+use Rattle.field.proofs.Laws.{count-long, count-none, count-high, count-open, count-ok}
+use Rattle.field.specs.Number.{runOf}
+use Rattle.field.specs.declared.Run.the-variants.{Of}
+use Rattle.basics.proofs.ChoiceLaws.{stops, passes}
+use mathlib.Core.Path.{_≡_, sym, _∙_}
+use native.Mathlib.Omega.{arith}
+use borrow.Author.Needs.{needs}
+use Rattle.field.proofs.count.Statement.{statement}
+use Rattle.field.proofs.count.Tie as tie
+
+-- what the run says
+of-run : (c : tie.After-n) → Of (c .n .given .0 .0) (c .n .given .0 .1 .0) ≡ runOf (c .before .before .before .before .args .s .now)
+of-run c = sym (c .n .given .1) ∙ c .before .before .leading .ensures
+
+leading-requires : tie.Need-leading-requires
+leading-requires c κs = search needs
+
+enum-known-n : tie.Need-enum-known-n
+enum-known-n c = search needs
+
+enum-told : tie.Need-enum-told
+enum-told c = search needs
+
+returns : tie.Need-returns
+returns c = count-long _ (sym (c .enum-told .given .1) ∙ c .before .before .leading .ensures)
+
+returns-2 : tie.Need-returns-2
+returns-2 c = count-none _ _ _ (of-run (c .before .before)) (c .if1 .taken)
+
+returns-3 : tie.Need-returns-3
+returns-3 c = count-high _ _ _ (of-run (c .before .before .before)) (omega arith)
+
+ends-at-requires : tie.Need-ends-at-requires
+ends-at-requires c κs = search needs
+
+returns-4 : tie.Need-returns-4
+returns-4 c = count-open _ _ _ (of-run (c .before .before .before .before .before)) (stops (c .before .ends-at .ensures) (c .if3 .taken))
+
+returns-5 : tie.Need-returns-5
+returns-5 c = count-ok _ _ _ (of-run (c .before .before .before .before .before)) (c .before .before .before .if1 .left) (c .before .before .if2 .left) (passes (c .before .ends-at .ensures) (c .if3 .left))
+
+pub count-spec : {M : Type 1} → statement M
+count-spec =
+    tie.close
+    (tie.spec
+    leading-requires
+    enum-known-n
+    enum-told
+    returns
+    returns-2
+    returns-3
+    ends-at-requires
+    returns-4
+    returns-5)

@@ -1,0 +1,93 @@
+-- `field::fraction_at` meets its contract: each `return` is a law of `fraction`. Assumes nothing.
+use Prim.Native.Nat.{_<_}
+use mathlib.Core.Path.{_≡_, sym, ap, _∙_}
+use native.Mathlib.Omega.{arith}
+use native.Mathlib.Nat.{pow-le-pow-right}
+use lib.Dec.{lit<}
+use lib.ListN.{drop}
+use lib.Seq.{drop-drop}
+use Rattle.basics.proofs.ChoiceLaws.{stops, passes}
+use Rattle.field.specs.declared.Run.the-variants.{Of}
+use Rattle.field.specs.Number.{runOf, ends}
+use Rattle.field.proofs.Laws.{run-small, fraction-long, fraction-none, fraction-high, fraction-open, fraction-ok}
+use borrow.Author.Needs.{needs}
+use Rattle.field.proofs.fraction_at.Statement.{statement}
+use Rattle.field.proofs.fraction_at.Tie as tie
+
+-- what the run says
+of-run : (c : tie.After-n)
+    → let a = c .before .before .before .before .args in
+    Of (c .n .given .0 .0) (c .n .given .0 .1 .0) ≡ runOf (drop (a .at) (a .s .now))
+of-run c = sym (c .n .given .1) ∙ c .before .before .leading-at .ensures
+
+-- the end of the fraction, as the code and as the definition say it
+at-end : (c : tie.After-ends-at)
+    → let b = c .before .before .before .before in
+    let a = b .before .before .before .before .args in
+    c .ends-at .result ≡ ends (drop (b .n .given .0 .0) (drop (a .at) (a .s .now)))
+at-end c =
+    let b = c .before .before .before .before in
+    let a = b .before .before .before .before .args in
+    c .ends-at .ensures ∙ ap ends (sym (drop-drop (b .n .given .0 .0) (a .at) (a .s .now)))
+
+leading-at-requires : tie.Need-leading-at-requires
+leading-at-requires c κs = search needs
+
+enum-known-n : tie.Need-enum-known-n
+enum-known-n c = search needs
+
+enum-told : tie.Need-enum-told
+enum-told c = search needs
+
+returns : tie.Need-returns
+returns c = fraction-long _ _ _ (sym (c .enum-told .given .1) ∙ c .before .before .leading-at .ensures)
+
+returns-2 : tie.Need-returns-2
+returns-2 c = fraction-none _ _ _ _ _ (of-run (c .before .before)) (c .if1 .taken)
+
+returns-3 : tie.Need-returns-3
+returns-3 c = fraction-high _ _ _ _ _ (of-run (c .before .before .before)) (omega arith)
+
+add-end : tie.Need-add-end
+add-end c = search needs
+
+ends-at-requires : tie.Need-ends-at-requires
+ends-at-requires c κs = search needs
+
+returns-4 : tie.Need-returns-4
+returns-4 c = fraction-open _ _ _ _ _ (of-run (c .before .before .before .before .before)) (stops (at-end (c .before)) (c .if3 .taken))
+
+mul-t10 : tie.Need-mul-t10
+mul-t10 c = search needs
+
+thousandths-requires : tie.Need-thousandths-requires
+thousandths-requires c κs =
+    let n = c .before .before .before .before .before in
+    let b : n .n .given .0 .1 .0 < 1000 = omega (arith, run-small _ _ _ (of-run n), pow-le-pow-right {n = 10} (lit< tt) {i = n .n .given .0 .0} {j = 3} (c .before .before .if2 .left)) in
+    omega arith
+
+add-t12 : tie.Need-add-t12
+add-t12 c = search needs
+
+returns-5 : tie.Need-returns-5
+returns-5 c =
+    let b = c .before .before .before .before in
+    fraction-ok _ _ _ _ _ (of-run (b .before .before)) _ (c .thousandths .ensures .0) (b .if1 .left) (c .before .before .before .if2 .left) (passes (at-end (c .before .before)) (c .before .if3 .left))
+
+pub fraction-at-spec : {M : Type 1} → statement M
+fraction-at-spec =
+    tie.close
+    (tie.spec
+    leading-at-requires
+    enum-known-n
+    enum-told
+    returns
+    returns-2
+    returns-3
+    add-end
+    ends-at-requires
+    returns-4
+    mul-t10
+    thousandths-requires
+    add-t12
+    returns-5)

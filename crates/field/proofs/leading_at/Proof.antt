@@ -1,0 +1,35 @@
+-- `field::leading_at` meets its contract: past the end there are no digits. Assumes nothing.
+use Rattle.field.proofs.Laws.{whole-part}
+use Rattle.field.specs.Number.{runOf}
+use mathlib.Core.Path.{_≡_, ap, _∙_}
+use lib.ListN.{drop-of-length-le}
+use borrow.Author.Needs.{needs}
+use Rattle.field.proofs.leading_at.Statement.{statement}
+use Rattle.field.proofs.leading_at.Tie as tie
+
+returns : tie.Need-returns
+unfolding runOf
+returns c = rw (drop-of-length-le _ (c .if1 .taken))
+
+sub-leading : tie.Need-sub-leading
+sub-leading c = search needs
+
+part-leading-start : tie.Need-part-leading-start
+part-leading-start c = search needs
+
+part-leading-end : tie.Need-part-leading-end
+part-leading-end c = search needs
+
+leading-requires : tie.Need-leading-requires
+leading-requires c κs = search needs
+
+returns-2 : tie.Need-returns-2
+unfolding runOf
+returns-2 c =
+    let a = c .before .before .before .before .args in
+    c .leading .ensures ∙ ap runOf (whole-part (a .s .now) (a .at))
+
+pub leading-at-spec : {M : Type 1} → statement M
+leading-at-spec =
+    tie.close
+    (tie.spec returns sub-leading part-leading-start part-leading-end leading-requires returns-2)

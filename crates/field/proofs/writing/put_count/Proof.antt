@@ -1,0 +1,31 @@
+-- `field::writing::put_count` meets its contract: where the digits fit, they fill the output up to their width. Assumes nothing.
+use borrow.Author.Needs.{needs}
+use mathlib.Core.Path.{sym, _∙_}
+use Rattle.field.specs.Text.{countText}
+use Rattle.field.proofs.TextLaws.{count-length, count-filled, put-short, put-filled}
+use Rattle.field.proofs.writing.put_count.Statement.{statement}
+use Rattle.field.proofs.writing.put_count.Tie as tie
+
+width-of-requires : tie.Need-width-of-requires
+width-of-requires c κs = search needs
+
+returns : tie.Need-returns
+returns c =
+    let a = c .before .before .before .args in
+    put-short (countText (a .n)) (a .out .now) (c .before .width-of .ensures ∙ sym (count-length (a .n))) (c .if1 .taken)
+
+put-digits-requires : tie.Need-put-digits-requires
+put-digits-requires c κs = search needs
+
+same-length : tie.Need-same-length
+same-length c = search needs
+
+returns-2 : tie.Need-returns-2
+returns-2 c =
+    let p = c .before .before in
+    let w = p .before .before .before in
+    put-filled (count-filled (w .before .before .args .n) (w .width-of .ensures) (p .put-digits .ensures) (p .put-digits .kept .0)) (p .before .before .if1 .left)
+
+pub put-count-spec : {M : Type 1} → statement M
+put-count-spec =
+    tie.close (tie.spec width-of-requires returns put-digits-requires same-length returns-2)
