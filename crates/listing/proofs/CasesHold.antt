@@ -1,0 +1,12 @@
+-- Assumes nothing.
+use mathlib.Core.Path.{refl}
+use Rattle.table.specs.Empty.{emptyTask, emptyTable}
+use Rattle.table.specs.Rules.{timesInRange, timesInOrder, timesFault, usedInRange, totalsFit}
+use Rattle.field.specs.Number.{fraction, timeField, countField}
+use Rattle.listing.specs.Lines.{fieldCount}
+use Rattle.listing.specs.Read.{cpusLine, taskLine, useLine, lineSays, pastAfter, newTask, tableAfter, readEnd, readLines, readListing}
+use Rattle.listing.specs.ReadCases.{cases, tableA, CasesHold}
+
+pub cases-hold : CasesHold
+unfolding cases tableA emptyTask emptyTable timesInRange timesInOrder timesFault usedInRange totalsFit fraction timeField countField fieldCount cpusLine taskLine useLine lineSays pastAfter newTask tableAfter readEnd readLines readListing
+cases-hold = (refl, refl, refl, refl)

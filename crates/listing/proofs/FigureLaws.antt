@@ -1,0 +1,97 @@
+-- Figures that obey the rules make a table that obeys them.
+-- Assumes nothing.
+use Prim.Native.Nat.{ℕ, zero, suc, _+_, _≤_, _<_}
+use mathlib.Core.Path.{_≡_, refl, ap}
+use mathlib.Core.Bool.{Bool, true, false}
+use mathlib.Core.List.{List, [], _∷_}
+use mathlib.Core.Logic.{_⊎_, inl, inr}
+use native.Mathlib.Omega.{arith}
+use native.Mathlib.Nat.{not-suc-le-zero}
+use lib.ListN.{length}
+use lib.Dec.{eqb}
+use borrow.Author.Tests.{eqb-true}
+use Rattle.basics.specs.Choice.{pick, only}
+use Rattle.basics.specs.Over.{sumTo}
+use Rattle.basics.proofs.OverLaws.{sum-le, sum-add, sum-eq, sum-bound}
+use Rattle.table.specs.declared.Pair.{Pair}
+use Rattle.table.specs.Limits.{maxTasks, maxResources}
+use Rattle.table.specs.Empty.{unusedPair}
+use Rattle.table.specs.At.{noTask, totalOf}
+use Rattle.table.specs.Accepted.{GoodPair, GoodTask, Accepted}
+use Rattle.listing.specs.Figures.{UseFigures, TaskFigures, Figures, GoodUses, GoodTaskFigures, GoodTasks, GoodFigures, pairFor, taskOf, taskFor, tableOf}
+use Rattle.listing.proofs.TableLaws.{row-at}
+
+good-pair : {C last sum : ℕ} {us : List UseFigures} (k : ℕ) → GoodUses C last sum us → (pairFor us k ≡ unusedPair) ⊎ GoodPair (pairFor us k)
+good-pair k GoodUses.no-use = inl refl
+good-pair k (GoodUses.one-use {u = u} {us = us} a b g f r) = go (eqb (u .K) (suc k)) (good-pair k r)
+  where
+    go : (t : Bool) → (pairFor us k ≡ unusedPair) ⊎ GoodPair (pairFor us k)
+        → let p = pick t (u .pair) (pairFor us k) in (p ≡ unusedPair) ⊎ GoodPair p
+    go true ih = inr g
+    go false ih = ih
+
+-- ---- the sum over the resources is at most the sum of the uses
+
+abbrev totalFor : List UseFigures → ℕ → ℕ
+totalFor us k = pairFor us k .total
+
+-- v, of resource K alone
+abbrev alone : ℕ → ℕ → ℕ → ℕ
+alone K v k = only (eqb K (suc k)) v
+
+alone-sum : (n K v : ℕ) → (n < K → sumTo n (alone K v) ≡ 0) × (sumTo n (alone K v) ≤ v)
+unfolding sumTo
+alone-sum zero K v = (λ h. refl, omega arith)
+alone-sum (suc n) K v = go (eqb K (suc n)) refl (alone-sum n K v)
+  where
+    go : (t : Bool) → eqb K (suc n) ≡ t → (n < K → sumTo n (alone K v) ≡ 0) × (sumTo n (alone K v) ≤ v)
+        → (suc n < K → sumTo n (alone K v) + only t v ≡ 0) × (sumTo n (alone K v) + only t v ≤ v)
+    go true e ih = let q = eqb-true K (suc n) e in (λ h. absurd (omega arith), omega (arith, ih .0 (omega arith)))
+    go false e ih = (λ h. omega (arith, ih .0 (omega arith)), omega (arith, ih .1))
+
+total-le : (t : Bool) (p q : Pair) → pick t p q .total ≤ only t (p .total) + q .total
+total-le true p q = omega arith
+total-le false p q = omega arith
+
+good-sum : {C last sum : ℕ} {us : List UseFigures} → GoodUses C last sum us → sum ≤ C → sum + sumTo maxResources (totalFor us) ≤ C
+good-sum GoodUses.no-use h = omega (arith, sum-bound maxResources 0 (totalFor []) (λ k l. omega arith))
+good-sum (GoodUses.one-use {u = u} {us = us} a b g f r) h =
+    let v = u .pair .total in
+    omega (
+      arith,
+      good-sum r f,
+      sum-le maxResources (totalFor (u ∷ us)) (λ (k : ℕ). alone (u .K) v k + totalFor us k) (λ k l. total-le (eqb (u .K) (suc k)) (u .pair) (pairFor us k)),
+      sum-add maxResources (alone (u .K) v) (totalFor us),
+      alone-sum maxResources (u .K) v .1,
+    )
+
+-- ---- tasks and the table
+
+good-task : (x : TaskFigures) → GoodTaskFigures x → GoodTask (taskOf x)
+unfolding taskOf
+good-task x g =
+    record {
+      times = g .times;
+      pair = λ k h. rw (row-at maxResources k (pairFor (x .uses)) unusedPair h) (good-pair k (g .uses));
+      totals = omega (
+        arith,
+        good-sum (g .uses) (omega arith),
+        sum-eq maxResources (totalOf (taskOf x)) (totalFor (x .uses)) (λ k h. ap (λ (p : Pair). p .total) (row-at maxResources k (pairFor (x .uses)) unusedPair h)),
+      );
+    }
+
+good-tasks : {xs : List TaskFigures} (i : ℕ) → GoodTasks xs → i < length xs → GoodTask (taskFor xs i)
+good-tasks i GoodTasks.no-task h = absurd (not-suc-le-zero h)
+good-tasks zero (GoodTasks.one-task {x} g r) h = good-task x g
+good-tasks (suc i) (GoodTasks.one-task g r) h = good-tasks i r (omega arith)
+
+pub good-table : (f : Figures) → GoodFigures f → Accepted (tableOf f)
+unfolding tableOf
+good-table f g =
+    record {
+      tasks-least = g .tasks-least;
+      tasks-most = g .tasks-most;
+      cpus-least = g .cpus-least;
+      cpus-most = g .cpus-most;
+      task = λ i h. rw (row-at maxTasks i (taskFor (f .tasks)) noTask (omega (arith, g .tasks-most))) (good-tasks i (g .tasks) h);
+    }

@@ -1,0 +1,102 @@
+-- `listing::line::task_line` meets its contract. Each time is read where its field begins. Assumes nothing.
+use lib.Dec.{lit≤}
+use native.Mathlib.Omega.{arith}
+use Rattle.basics.specs.Text.{bytes}
+use Rattle.field.specs.Number.{timeField}
+use Rattle.listing.specs.Read.{taskLine}
+use Rattle.listing.proofs.FieldLaws.{Begins, States, form-second, time-kind, bad-field, states, steps}
+use borrow.Author.Needs.{needs}
+use Rattle.listing.proofs.line.task_line.Statement.{statement}
+use Rattle.listing.proofs.line.task_line.Tie as tie
+
+-- where the first number begins; then what each number is, and where the next begins
+start : (c : tie.Start) → Begins (c .args .line .now) 1 2 5
+start c = form-second (bytes "task") 2 _ (lit≤ tt) (c .pre)
+
+period : (c : tie.After-period) → let s = c .before .before .before .before .args .line .now in
+    States timeField s 1 (c .period .given .0 .0) × Begins s 2 1 (c .period .given .0 .1 .0)
+period c = steps time-kind (start (c .before .before .before .before)) (c .before .before .time-at .ensures) (c .period .given .1)
+
+run : (c : tie.After-run) → let s = c .before .before .before .before .before .before .before .before .args .line .now in
+    States timeField s 2 (c .run .given .0 .0) × Begins s 3 0 (c .run .given .0 .1 .0)
+run c = steps time-kind (period (c .before .before .before .before) .1) (c .before .before .time-at2 .ensures) (c .run .given .1)
+
+deadline : (c : tie.After-deadline)
+    → States timeField (c .before .before .before .before .before .before .before .before .before .before .before .before .args .line .now) 3 (c .deadline .given .0 .0)
+deadline c = states time-kind (run (c .before .before .before .before) .1) (c .before .before .time-at3 .ensures) (c .deadline .given .1)
+
+time-at-requires : tie.Need-time-at-requires
+time-at-requires c κs = search needs
+
+enum-known-period : tie.Need-enum-known-period
+enum-known-period c = search needs
+
+enum-told : tie.Need-enum-told
+enum-told c = search needs
+
+returns : tie.Need-returns
+unfolding taskLine
+returns c =
+    let b = c .before .before in
+    rw (bad-field time-kind (start (b .before .before)) (b .time-at .ensures) (c .enum-told .given .1))
+
+time-at-requires-2 : tie.Need-time-at-requires-2
+time-at-requires-2 c κs = omega (arith, period (c .before) .1 .near)
+
+enum-known-run : tie.Need-enum-known-run
+enum-known-run c = search needs
+
+enum-told-2 : tie.Need-enum-told-2
+enum-told-2 c = search needs
+
+returns-2 : tie.Need-returns-2
+unfolding taskLine
+returns-2 c =
+    let b = c .before .before in
+    let p = period (b .before .before) in
+    rw (p .0 .says, bad-field time-kind (p .1) (b .time-at2 .ensures) (c .enum-told2 .given .1))
+
+time-at-requires-3 : tie.Need-time-at-requires-3
+time-at-requires-3 c κs = omega (arith, run (c .before) .1 .near)
+
+enum-known-deadline : tie.Need-enum-known-deadline
+enum-known-deadline c = search needs
+
+enum-told-3 : tie.Need-enum-told-3
+enum-told-3 c = search needs
+
+returns-3 : tie.Need-returns-3
+unfolding taskLine
+returns-3 c =
+    let b = c .before .before in
+    let r = b .before .before in
+    rw (period (r .before .before .before .before) .0 .says, run r .0 .says, bad-field time-kind (run r .1) (b .time-at3 .ensures) (c .enum-told3 .given .1))
+
+task-of-requires : tie.Need-task-of-requires
+task-of-requires c κs = search needs
+
+returns-4 : tie.Need-returns-4
+unfolding taskLine
+returns-4 c =
+    let d = c .before .before in
+    let r = d .before .before .before .before in
+    rw (period (r .before .before .before .before) .0 .says, run r .0 .says, deadline d .says) (c .task-of .ensures)
+
+pub task-line-spec : {M : Type 1} → statement M
+task-line-spec =
+    tie.close
+    (tie.spec
+    time-at-requires
+    enum-known-period
+    enum-told
+    returns
+    time-at-requires-2
+    enum-known-run
+    enum-told-2
+    returns-2
+    time-at-requires-3
+    enum-known-deadline
+    enum-told-3
+    returns-3
+    task-of-requires
+    returns-4)

@@ -1,0 +1,77 @@
+-- `listing::line::use_of` meets its contract. The fields are well formed, so the tests decide, in order. Assumes nothing.
+use mathlib.Core.Path.{_≡_}
+use mathlib.Core.Bool.{true, _&&_}
+use borrow.Author.Tests.{lt-ltb, le-ltb}
+use Rattle.basics.specs.Choice.{within}
+use Rattle.basics.proofs.ChoiceLaws.{stops, passes}
+use Rattle.table.specs.Rules.{usedInRange}
+use Rattle.listing.specs.Read.{useLine}
+use borrow.Author.Needs.{needs}
+use Rattle.listing.proofs.line.use_of.Statement.{statement}
+use Rattle.listing.proofs.line.use_of.Tie as tie
+
+in-range-requires : tie.Need-in-range-requires
+in-range-requires c κs = search needs
+
+returns : tie.Need-returns
+unfolding useLine
+returns c = simp (stops (c .before .in-range .ensures) (c .if1 .taken))
+
+used-in-range-requires : tie.Need-used-in-range-requires
+used-in-range-requires c κs = search needs
+
+returns-2 : tie.Need-returns-2
+unfolding useLine
+returns-2 c =
+    let a = c .before .before in
+    rw (passes (a .before .in-range .ensures) (a .if1 .left), stops (c .before .used-in-range .ensures) (c .if2 .taken))
+
+-- the numbers are in range
+in-use : (c : tie.Else2) → let a = c .before .before .before .before .args in (within 1 16 (a .k .0) && usedInRange (a .p)) ≡ true
+in-use c =
+    let a = c .before .before in
+    rw (passes (a .before .in-range .ensures) (a .if1 .left), passes (c .before .used-in-range .ensures) (c .if2 .left))
+
+returns-3 : tie.Need-returns-3
+unfolding useLine
+returns-3 c = rw (in-use (c .before .before .before), le-ltb _ _ (c .if3 .taken))
+
+cast-totals-fit : tie.Need-cast-totals-fit
+cast-totals-fit c = search needs
+
+cast-totals-fit-2 : tie.Need-cast-totals-fit-2
+cast-totals-fit-2 c = search needs
+
+add-totals-fit : tie.Need-add-totals-fit
+add-totals-fit c = search needs
+
+totals-fit-requires : tie.Need-totals-fit-requires
+totals-fit-requires c κs = search needs
+
+returns-4 : tie.Need-returns-4
+unfolding useLine
+returns-4 c =
+    let b = c .before .before .before .before in
+    rw (in-use (b .before .before .before), lt-ltb _ _ (b .if3 .left), stops (c .before .totals-fit .ensures) (c .if4 .taken))
+
+returns-5 : tie.Need-returns-5
+unfolding useLine
+returns-5 c =
+    let b = c .before .before .before .before in
+    rw (in-use (b .before .before .before), lt-ltb _ _ (b .if3 .left), passes (c .before .totals-fit .ensures) (c .if4 .left))
+
+pub use-of-spec : {M : Type 1} → statement M
+use-of-spec =
+    tie.close
+    (tie.spec
+    in-range-requires
+    returns
+    used-in-range-requires
+    returns-2
+    returns-3
+    cast-totals-fit
+    cast-totals-fit-2
+    add-totals-fit
+    totals-fit-requires
+    returns-4
+    returns-5)

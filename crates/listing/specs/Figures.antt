@@ -1,0 +1,109 @@
+-- The reading of an accepted listing said a second way, without reading it: the figures that a listing's lines state, the rules that
+-- they obey, and the table that holds them.
+use Prim.Native.Nat.{ℕ, zero, suc, _+_, _≤_, _<_}
+use Prim.Native.String.{String}
+use mathlib.Core.Path.{_≡_}
+use mathlib.Core.List.{List, [], _∷_, _++_}
+use lib.ListN.{length}
+use lib.Dec.{eqb}
+use Rattle.basics.specs.Choice.{pick}
+use Rattle.basics.specs.Text.{bytes}
+use Rattle.table.specs.declared.Pair.{Pair}
+use Rattle.table.specs.declared.Task.{Task}
+use Rattle.table.specs.declared.Table.{Table}
+use Rattle.table.specs.Limits.{maxCpus, maxTasks, maxResources}
+use Rattle.table.specs.Empty.{unusedPair, emptyTask}
+use Rattle.table.specs.Accepted.{GoodTimes, GoodPair}
+use Rattle.field.specs.Spelling.{StatesTime, StatesCount}
+
+-- ---- figures
+
+-- K, with N, c and CT
+pub record UseFigures : Type 0 where
+  pub K : ℕ
+  pub pair : Pair
+
+pub record TaskFigures : Type 0 where
+  pub T : ℕ
+  pub C : ℕ
+  pub D : ℕ
+  pub uses : List UseFigures
+
+pub record Figures : Type 0 where
+  pub M : ℕ
+  pub tasks : List TaskFigures
+
+-- ---- which listings state them: `cpus M`, then each task followed by its `use` lines
+
+-- fields, each after exactly one space, and the LF
+abbrev pub ending : List (List ℕ) → List ℕ
+ending [] = 10 ∷ []
+ending (w ∷ ws) = 32 ∷ (w ++ ending ws)
+
+-- a line of a word and fields
+abbrev pub lineOf : String → List (List ℕ) → List ℕ
+lineOf word ws = bytes word ++ ending ws
+
+pub data StatesUses : List ℕ → List UseFigures → Type 0 where
+  no-use : StatesUses [] []
+  use-line : {k n c ct rest : List ℕ} {u : UseFigures} {us : List UseFigures}
+      → StatesCount k (u .K) → StatesCount n (u .pair .requests) → StatesTime c (u .pair .longest) → StatesTime ct (u .pair .total)
+      → StatesUses rest us → StatesUses (lineOf "use" (k ∷ n ∷ c ∷ ct ∷ []) ++ rest) (u ∷ us)
+
+pub data StatesTasks : List ℕ → List TaskFigures → Type 0 where
+  no-task : StatesTasks [] []
+  task-line : {t c d uses rest : List ℕ} {x : TaskFigures} {xs : List TaskFigures}
+      → StatesTime t (x .T) → StatesTime c (x .C) → StatesTime d (x .D) → StatesUses uses (x .uses)
+      → StatesTasks rest xs → StatesTasks (lineOf "task" (t ∷ c ∷ d ∷ []) ++ (uses ++ rest)) (x ∷ xs)
+
+pub data StatesFigures : List ℕ → Figures → Type 0 where
+  cpus-line : {m rest : List ℕ} {f : Figures} → StatesCount m (f .M) → StatesTasks rest (f .tasks)
+      → StatesFigures (lineOf "cpus" (m ∷ []) ++ rest) f
+
+-- ---- the rules that they obey ("Quantities")
+
+-- the uses of a task with run time C, after one of resource `last`, with the CT so far
+pub data GoodUses (C : ℕ) : ℕ → ℕ → List UseFigures → Type 0 where
+  no-use : {last sum : ℕ} → GoodUses C last sum []
+  one-use : {last sum : ℕ} {u : UseFigures} {us : List UseFigures}
+      → last < u .K → u .K ≤ maxResources → GoodPair (u .pair) → sum + u .pair .total ≤ C
+      → GoodUses C (u .K) (sum + u .pair .total) us → GoodUses C last sum (u ∷ us)
+
+pub record GoodTaskFigures (x : TaskFigures) : Type 0 where
+  pub times : GoodTimes (x .T) (x .C) (x .D)
+  pub uses : GoodUses (x .C) 0 0 (x .uses)
+
+pub data GoodTasks : List TaskFigures → Type 0 where
+  no-task : GoodTasks []
+  one-task : {x : TaskFigures} {xs : List TaskFigures} → GoodTaskFigures x → GoodTasks xs → GoodTasks (x ∷ xs)
+
+pub record GoodFigures (f : Figures) : Type 0 where
+  pub cpus-least : 1 ≤ f .M
+  pub cpus-most : f .M ≤ maxCpus
+  pub tasks-least : 1 ≤ length (f .tasks)
+  pub tasks-most : length (f .tasks) ≤ maxTasks
+  pub tasks : GoodTasks (f .tasks)
+
+-- ---- the table that holds them, and zeros
+
+-- the row g 0, g 1, .., g (n − 1)
+unfoldable pub rowTo : {A : Type 0} → ℕ → (ℕ → A) → List A
+rowTo zero g = []
+rowTo (suc n) g = rowTo n g ++ (g n ∷ [])
+
+-- the pair with resource k + 1
+abbrev pub pairFor : List UseFigures → ℕ → Pair
+pairFor [] k = unusedPair
+pairFor (u ∷ us) k = pick (eqb (u .K) (suc k)) (u .pair) (pairFor us k)
+
+unfoldable pub taskOf : TaskFigures → Task
+taskOf x = record { period = x .T; run = x .C; deadline = x .D; pairs = rowTo maxResources (pairFor (x .uses)) }
+
+-- task i + 1
+abbrev pub taskFor : List TaskFigures → ℕ → Task
+taskFor [] i = emptyTask
+taskFor (x ∷ xs) zero = taskOf x
+taskFor (x ∷ xs) (suc i) = taskFor xs i
+
+unfoldable pub tableOf : Figures → Table
+tableOf f = record { cpus = f .M; n = length (f .tasks); tasks = rowTo maxTasks (taskFor (f .tasks)) }

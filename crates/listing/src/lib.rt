@@ -1,0 +1,163 @@
+// A listing to a table.
+ghost use mathlib.Core.Path.{_≡_};
+ghost use Prim.Native.Nat.{_≤_};
+ghost use lib.ListN.{length};
+ghost use Rattle.listing.specs.Lines.{line};
+ghost use Rattle.listing.specs.Read.{newTask, pastAfter, refused, readListing};
+use table::Checked;
+use table::Fault;
+use table::Pair;
+use table::Refusal;
+use table::Resource;
+use table::Table;
+use table::Task;
+
+mod line;
+
+// What the lines so far leave for the next one to be judged by: the tasks so far; and of the last of them its C, the K of its last
+// `use` line (0: none), and the sum of its CT.
+struct Past {
+    tasks: usize,
+    run: u32,
+    last: Resource,
+    sum: u32,
+}
+
+// What a line says, or why it is refused.
+enum Said {
+    Cpus(u32),
+    Task(u32, u32, u32),
+    Use(Resource, Pair),
+    Not(Refusal),
+}
+
+// The table that a listing says; or the refusal, with the empty table.
+pub struct Reading {
+    pub answer: Checked,
+    pub table: Table,
+}
+
+impl Past {
+    fn after(self, said: Said) -> Self
+        requires { ⌜ (pastAfter self said .tasks ≤ 32) × (pastAfter self said .sum ≤ 4294967295) ⌝ }
+        ensures { λ r. ⌜ r ≡ pastAfter self said ⌝ }
+    {
+        match said {
+            Said::Cpus(_) => self,
+            Said::Task(_, run, _) => Past {
+                tasks: self.tasks + 1,
+                run,
+                last: Resource(0),
+                sum: 0,
+            },
+            Said::Use(last, p) => Past {
+                tasks: self.tasks,
+                run: self.run,
+                last,
+                sum: self.sum + p.total,
+            },
+            Said::Not(_) => self,
+        }
+    }
+}
+
+// A task that uses no resource yet.
+fn new_task(period: u32, run: u32, deadline: u32) -> Task
+    ensures { λ r. ⌜ r ≡ newTask period run deadline ⌝ }
+{
+    let pairs = [Pair {
+        requests: 0,
+        longest: 0,
+        total: 0,
+    }; Table::MAX_RESOURCES];
+    Task {
+        period,
+        run,
+        deadline,
+        pairs,
+    }
+}
+
+fn refuse(fault: Fault, place: u32) -> Reading
+    ensures { λ r. ⌜ r ≡ refused fault place ⌝ }
+{
+    Reading {
+        answer: Checked::Refused(Refusal { fault, place }),
+        table: Table::empty(),
+    }
+}
+
+// How long the line is that s starts with, without its LF.
+fn line_len(s: &[u8]) -> usize
+    ensures { λ r. ⌜ r ≡ length (line (now (s .entry))) ⌝ }
+{
+    let mut i: usize = 0;
+    while i < s.len() {
+        if s[i] == 10 {
+            return i;
+        }
+        i += 1;
+    }
+    i
+}
+
+// The table that a listing says, or its first refusal.
+pub fn read(listing: &[u8]) -> Reading
+    ensures { λ r. ⌜ r ≡ readListing (now (listing .entry)) ⌝ }
+{
+    if Table::MAX_LISTING < listing.len() {
+        return refuse(Fault::TooLong, 0);
+    }
+    let mut table = Table::empty();
+    let mut past = Past {
+        tasks: 0,
+        run: 0,
+        last: Resource(0),
+        sum: 0,
+    };
+    let mut number: u32 = 1;
+    let mut at: usize = 0;
+    while at < listing.len() {
+        let end = at + line_len(&listing[at..]);
+        if end == listing.len() {
+            return refuse(Fault::BadForm, number);
+        }
+        let said = line::line_of(past, number, &listing[at..end]);
+        let tasks = past.tasks;
+        past = past.after(said);
+        number += 1;
+        at = end + 1;
+        match said {
+            Said::Cpus(m) => {
+                table.cpus = m;
+            }
+            Said::Task(period, run, deadline) => {
+                table.tasks[tasks] = new_task(period, run, deadline);
+                table.n = tasks + 1;
+            }
+            Said::Use(k, p) => {
+                let i = tasks - 1;
+                let mut x = table.tasks[i];
+                let j = (k.0 - 1) as usize;
+                x.pairs[j] = p;
+                table.tasks[i] = x;
+            }
+            Said::Not(r) => {
+                return Reading {
+                    answer: Checked::Refused(r),
+                    table: Table::empty(),
+                };
+            }
+        }
+    }
+    if number <= 1 {
+        return refuse(Fault::BadForm, number);
+    }
+    if past.tasks < 1 {
+        return refuse(Fault::NoTask, 2);
+    }
+    Reading {
+        answer: Checked::Fine,
+        table,
+    }
+}
