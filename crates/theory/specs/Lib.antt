@@ -1,0 +1,13 @@
+-- The analysis of HURRAY-TR-090908 as document 01 gives it, in the order of its equations.
+--   Work      (4), (5): the workload; the one quotient, rounded up
+--   View      what the analysis reads of a table
+--   Demand    (6) to (11): DB, S, O, F, L and the demand; the ceiling of a resource
+--   Verdict   the bound of a task, or a miss
+--   Cases     the paper's point on the quotient
+--   Harder    what demand 3 calls a table made harder
+pub mod Work
+pub mod View
+pub mod Demand
+pub mod Verdict
+pub mod Cases
+pub mod Harder
