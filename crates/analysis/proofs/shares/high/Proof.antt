@@ -1,0 +1,66 @@
+-- `analysis::shares::high` meets its contract. The loop's invariant: the marks of the resources below `number` are there. Assumes nothing.
+use borrow.Author.Needs.{needs}
+use mathlib.Core.Bool.{false}
+use mathlib.Core.Path.{_≡_, refl}
+use native.Mathlib.Omega.{arith}
+use Prim.Native.Nat.{pred, _-_, _≤_}
+use Rattle.theory.specs.View.{isAbove}
+use Rattle.analysis.specs.Pass.{ceilingAt}
+use Rattle.analysis.proofs.PassShares.{Filled, filled-none, filled-more, filled-all}
+use Rattle.analysis.proofs.shares.high.Statement.{statement}
+use Rattle.analysis.proofs.shares.high.Tie as tie
+
+abbrev Inv-loop : tie.InvT-loop
+Inv-loop i known on₀ number₀ on number = (1 ≤ number) × Filled (λ j x. x ≡ isAbove (ceilingAt known j) i) false 16 on (pred number)
+
+abbrev μ-loop : tie.MeasureT-loop
+μ-loop i known on₀ number₀ on number = 17 - number
+
+loop-holds : tie.Need-loop-holds Inv-loop μ-loop
+loop-holds c = (search needs, filled-none _ _ _ _ refl)
+
+slot-requires : tie.Need-slot-requires Inv-loop μ-loop
+slot-requires c κs = search needs
+
+mul-ceiling : tie.Need-mul-ceiling Inv-loop μ-loop
+mul-ceiling c = search needs
+
+element-copy-out-ceiling : tie.Need-element-copy-out-ceiling Inv-loop μ-loop
+element-copy-out-ceiling c = search needs
+
+is-above-requires : tie.Need-is-above-requires Inv-loop μ-loop
+is-above-requires c κs = search needs
+
+array-write-on : tie.Need-array-write-on Inv-loop μ-loop
+array-write-on c = search needs
+
+add-number : tie.Need-add-number Inv-loop μ-loop
+add-number c = search needs
+
+loop-less : tie.Need-loop-less Inv-loop μ-loop
+loop-less c = search needs
+
+loop-again : tie.Need-loop-again Inv-loop μ-loop
+loop-again c =
+    let p = c .before .before in
+    (search needs, filled-more (p .before .before .loop .inv .1) (omega arith) _ _ (p .slot .ensures) (c .is-above .ensures) _ (omega arith))
+
+returns : tie.Need-returns Inv-loop μ-loop
+returns c = record { each = filled-all (c .before .loop .inv .1) (omega arith) }
+
+pub high-spec : {M : Type 1} → statement M
+high-spec =
+    tie.close
+    (tie.spec
+    Inv-loop
+    μ-loop
+    loop-holds
+    slot-requires
+    mul-ceiling
+    element-copy-out-ceiling
+    is-above-requires
+    array-write-on
+    add-number
+    loop-less
+    loop-again
+    returns)

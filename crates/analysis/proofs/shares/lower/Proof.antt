@@ -1,0 +1,25 @@
+-- `analysis::shares::lower` meets its contract. The parts are what `split` and `unless` ensure. Assumes nothing.
+use borrow.Author.Needs.{needs}
+use mathlib.Core.Path.{refl, ap, _∙_}
+use Rattle.basics.specs.Choice.{pick}
+use Rattle.analysis.proofs.shares.lower.Statement.{statement}
+use Rattle.analysis.proofs.shares.lower.Tie as tie
+
+split-requires : tie.Need-split-requires
+split-requires c κs = search needs
+
+unless-requires : tie.Need-unless-requires
+unless-requires c κs = search needs
+
+returns : tie.Need-returns
+returns c =
+    record {
+      period = refl;
+      deadline = refl;
+      whole = refl;
+      one = c .unless .ensures ∙ ap (pick (c .before .before .args .short) 0) (c .before .split .ensures .marked);
+      two = refl;
+    }
+
+pub lower-spec : {M : Type 1} → statement M
+lower-spec = tie.close (tie.spec split-requires unless-requires returns)

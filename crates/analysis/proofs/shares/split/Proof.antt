@@ -1,0 +1,86 @@
+-- `analysis::shares::split` meets its contract. The loop's invariant: the sums are those of the first k resources, and in order. Assumes nothing.
+use borrow.Author.Needs.{needs}
+use mathlib.Core.Path.{_≡_, ap, _∙_}
+use native.Mathlib.Omega.{arith}
+use Prim.Native.Nat.{ℕ, _-_, _≤_}
+use Rattle.basics.specs.Over.{sumTo}
+use Rattle.basics.proofs.OverLaws.{sum-none, sum-more}
+use Rattle.table.specs.At.{totalOf}
+use Rattle.analysis.specs.Pass.{markedOf}
+use Rattle.analysis.proofs.PassShares.{totals-most}
+use Rattle.analysis.proofs.shares.split.Statement.{statement}
+use Rattle.analysis.proofs.shares.split.Tie as tie
+
+abbrev Inv-loop : tie.InvT-loop
+Inv-loop m b marked₀ all₀ k₀ marked all k =
+    (k ≤ 16) × (marked ≡ sumTo k (markedOf m b)) × (all ≡ sumTo k (totalOf b)) × (marked ≤ all)
+
+abbrev μ-loop : tie.MeasureT-loop
+μ-loop m b marked₀ all₀ k₀ marked all k = 16 - k
+
+loop-holds : tie.Need-loop-holds Inv-loop μ-loop
+loop-holds c = omega (arith, sum-none (markedOf (c .args .t1) (c .args .t2)), sum-none (totalOf (c .args .t2)))
+
+mul-p : tie.Need-mul-p Inv-loop μ-loop
+mul-p c = search needs
+
+element-copy-out-p : tie.Need-element-copy-out-p Inv-loop μ-loop
+element-copy-out-p c = search needs
+
+element-copy-out-on : tie.Need-element-copy-out-on Inv-loop μ-loop
+element-copy-out-on c = search needs
+
+only-requires : tie.Need-only-requires Inv-loop μ-loop
+only-requires c κs = search needs
+
+add-marked : tie.Need-add-marked Inv-loop μ-loop
+add-marked c =
+    let p = c .before .before .before .before in
+    omega (arith, c .only .ensures .most, totals-most (p .before .args .t2) (p .loop .k) (p .before .pre) (omega arith))
+
+add-all : tie.Need-add-all Inv-loop μ-loop
+add-all c =
+    let p = c .before .before .before .before .before in
+    omega (arith, totals-most (p .before .args .t2) (p .loop .k) (p .before .pre) (omega arith))
+
+add-k : tie.Need-add-k Inv-loop μ-loop
+add-k c = search needs
+
+loop-less : tie.Need-loop-less Inv-loop μ-loop
+loop-less c = search needs
+
+loop-again : tie.Need-loop-again Inv-loop μ-loop
+loop-again c =
+    let p = c .before .before .before .before .before in
+    let a = p .before .args in
+    let o = c .before .only .ensures in
+    omega (arith, o .is, o .most, sum-more (p .loop .k) (markedOf (a .t1) (a .t2)), sum-more (p .loop .k) (totalOf (a .t2)))
+
+returns : tie.Need-returns Inv-loop μ-loop
+returns c =
+    let l = c .before .loop in
+    let a = c .before .before .args in
+    let e : l .k ≡ 16 = omega arith in
+    record {
+      marked = l .inv .1 ∙ ap (λ (n : ℕ). sumTo n (markedOf (a .t1) (a .t2))) e;
+      all = l .inv .2 ∙ ap (λ (n : ℕ). sumTo n (totalOf (a .t2))) e;
+      order = l .inv .3;
+    }
+
+pub split-spec : {M : Type 1} → statement M
+split-spec =
+    tie.close
+    (tie.spec
+    Inv-loop
+    μ-loop
+    loop-holds
+    mul-p
+    element-copy-out-p
+    element-copy-out-on
+    only-requires
+    add-marked
+    add-all
+    add-k
+    loop-less
+    loop-again
+    returns)

@@ -1,0 +1,56 @@
+-- `analysis::shares::used_by` meets its contract. The loop's invariant: the first k marks are there. Assumes nothing.
+use borrow.Author.Needs.{needs}
+use mathlib.Core.Bool.{false}
+use mathlib.Core.Path.{_≡_, refl}
+use native.Mathlib.Omega.{arith}
+use Prim.Native.Nat.{_-_}
+use lib.Dec.{ltb}
+use Rattle.table.specs.At.{pairOf}
+use Rattle.analysis.proofs.PassShares.{Filled, filled-none, filled-more, filled-all}
+use Rattle.analysis.proofs.shares.used_by.Statement.{statement}
+use Rattle.analysis.proofs.shares.used_by.Tie as tie
+
+abbrev Inv-loop : tie.InvT-loop
+Inv-loop a on₀ k₀ on k = Filled (λ j x. x ≡ ltb 0 (pairOf a j .requests)) false 16 on k
+
+abbrev μ-loop : tie.MeasureT-loop
+μ-loop a on₀ k₀ on k = 16 - k
+
+loop-holds : tie.Need-loop-holds Inv-loop μ-loop
+loop-holds c = filled-none _ _ _ _ refl
+
+mul-p : tie.Need-mul-p Inv-loop μ-loop
+mul-p c = search needs
+
+element-copy-out-p : tie.Need-element-copy-out-p Inv-loop μ-loop
+element-copy-out-p c = search needs
+
+array-write-on : tie.Need-array-write-on Inv-loop μ-loop
+array-write-on c = search needs
+
+add-k : tie.Need-add-k Inv-loop μ-loop
+add-k c = search needs
+
+loop-less : tie.Need-loop-less Inv-loop μ-loop
+loop-less c = search needs
+
+loop-again : tie.Need-loop-again Inv-loop μ-loop
+loop-again c = filled-more (c .before .before .before .loop .inv) (omega arith) _ _ refl refl _ refl
+
+returns : tie.Need-returns Inv-loop μ-loop
+returns c = record { each = filled-all (c .before .loop .inv) (omega arith) }
+
+pub used-by-spec : {M : Type 1} → statement M
+used-by-spec =
+    tie.close
+    (tie.spec
+    Inv-loop
+    μ-loop
+    loop-holds
+    mul-p
+    element-copy-out-p
+    array-write-on
+    add-k
+    loop-less
+    loop-again
+    returns)

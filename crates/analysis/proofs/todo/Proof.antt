@@ -1,0 +1,26 @@
+-- `analysis::todo` meets its contract. What `judge` says decides between none and all. Assumes nothing.
+use mathlib.Core.Path.{_∙_, sym}
+use Rattle.analysis.specs.Answers.{written}
+use borrow.Author.Needs.{needs}
+use Rattle.analysis.proofs.todo.Statement.{statement}
+use Rattle.analysis.proofs.todo.Tie as tie
+
+judge-requires : tie.Need-judge-requires
+judge-requires c κs = search needs
+
+enum-told : tie.Need-enum-told
+enum-told c = search needs
+
+enum-told-2 : tie.Need-enum-told-2
+enum-told-2 c = search needs
+
+returns : tie.Need-returns
+unfolding written
+returns c = rw (sym (c .before .before .judge .ensures) ∙ c .enum-told2 .given .1)
+
+returns-2 : tie.Need-returns-2
+unfolding written
+returns-2 c = rw (sym (c .before .before .judge .ensures) ∙ c .enum-told .given .1)
+
+pub todo-spec : {M : Type 1} → statement M
+todo-spec = tie.close (tie.spec judge-requires enum-told enum-told-2 returns returns-2)

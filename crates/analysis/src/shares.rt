@@ -1,0 +1,291 @@
+// Cutting a table down to what the analysis of one task reads, in one pass over the tasks. No function that a loop calls takes the table.
+ghost use mathlib.Core.Path.{_≡_};
+ghost use Prim.Native.Nat.{pred, _≤_, _<_, max};
+ghost use Rattle.basics.specs.Choice.{pick};
+ghost use Rattle.table.specs.declared.Checked.the-variants.{Fine};
+ghost use Rattle.table.specs.Rules.{tableFault};
+ghost use Rattle.table.specs.Accepted.{GoodTask};
+ghost use Rattle.theory.specs.View.{level, isAbove};
+ghost use Rattle.analysis.specs.Tables.{viewOf};
+ghost use Rattle.analysis.specs.Shares.{Reduced};
+ghost use Rattle.analysis.specs.Pass.{Chosen, UsedBy, ceilingWith, CeilingsWith, HighIn, RaisedBy, SmallPeaks, TotalsAre, WaitIs, UpperIs, LowerIs};
+use table::Level;
+use table::Resource;
+use table::Table;
+use table::Task;
+
+const RESOURCES: u32 = Table::MAX_RESOURCES as u32;
+
+// What one task's analysis reads of another: the units of it that count whole, and the two counts that are divided by m.
+pub(crate) struct Share {
+    pub period: u32,
+    pub deadline: u32,
+    pub whole: u32, // S
+    pub one: u32, // O, or L
+    pub two: u32, // F
+}
+
+// C, C + DB, m, and a share for each of the n tasks.
+pub(crate) struct Shares {
+    pub start: u32,
+    pub base: u64,
+    pub cpus: u64,
+    pub n: usize,
+    pub of: [Share; Table::MAX_TASKS],
+}
+
+// Resource k of a row stands at this slot.
+fn slot(k: Resource) -> usize
+    requires { ⌜ (1 ≤ k .0) × (k .0 ≤ 16) ⌝ }
+    ensures { λ r. ⌜ r ≡ pred (k .0) ⌝ }
+{
+    (k.0 - 1) as usize
+}
+
+// Whether a priority is strictly higher than another: its number is less.
+fn is_above(a: Level, b: Level) -> bool
+    ensures { λ r. ⌜ r ≡ isAbove a b ⌝ }
+{
+    a.0 < b.0
+}
+
+// Some of the resources.
+struct Marks {
+    on: [bool; Table::MAX_RESOURCES],
+}
+
+// The ceiling of each resource, as far as it is known.
+struct Ceilings {
+    of: [Level; Table::MAX_RESOURCES],
+}
+
+// The longest single request for each resource.
+struct Peaks {
+    longest: [u32; Table::MAX_RESOURCES],
+}
+
+// The CT of a task for the resources marked, and for all.
+struct Totals {
+    marked: u32,
+    all: u32,
+}
+
+fn only(on: bool, x: u32) -> u32
+    ensures { λ r. ⌜ Chosen on x r ⌝ }
+{
+    if on { x } else { 0 }
+}
+
+fn unless(short: bool, x: u32) -> u32
+    ensures { λ r. ⌜ r ≡ pick short 0 x ⌝ }
+{
+    if short { 0 } else { x }
+}
+
+fn most(a: u32, b: u32) -> u32
+    ensures { λ r. ⌜ r ≡ max a b ⌝ }
+{
+    if a < b { b } else { a }
+}
+
+fn wide(x: u32) -> u64
+    ensures { λ r. ⌜ r ≡ x ⌝ }
+{
+    x as u64
+}
+
+// The resources that a task uses.
+fn used_by(a: Task) -> Marks
+    ensures { λ r. ⌜ UsedBy a r ⌝ }
+{
+    let mut on = [false; Table::MAX_RESOURCES];
+    let mut k: usize = 0;
+    while k < Table::MAX_RESOURCES {
+        let p = a.pairs[k];
+        on[k] = 0 < p.requests;
+        k = k + 1;
+    }
+    Marks { on }
+}
+
+// The ceiling of one resource, once a task is known that asks for it so often.
+fn ceiling_with(known: Level, requests: u32, task: Level) -> Level
+    ensures { λ r. ⌜ r ≡ ceilingWith known requests task ⌝ }
+{
+    if requests == 0 {
+        return known;
+    }
+    if is_above(task, known) {
+        return task;
+    }
+    known
+}
+
+// The ceilings once another task is known.
+fn ceilings_with(known: Ceilings, b: Task, task: Level) -> Ceilings
+    ensures { λ r. ⌜ CeilingsWith known b task r ⌝ }
+{
+    let mut of = [Level(0); Table::MAX_RESOURCES];
+    let mut number: u32 = 1;
+    while number <= RESOURCES {
+        let k = slot(Resource(number));
+        let p = b.pairs[k];
+        let c = known.of[k];
+        of[k] = ceiling_with(c, p.requests, task);
+        number = number + 1;
+    }
+    Ceilings { of }
+}
+
+// The resources whose ceiling is strictly above a priority.
+fn high(known: Ceilings, i: Level) -> Marks
+    ensures { λ r. ⌜ HighIn known i r ⌝ }
+{
+    let mut on = [false; Table::MAX_RESOURCES];
+    let mut number: u32 = 1;
+    while number <= RESOURCES {
+        let k = slot(Resource(number));
+        let ceiling = known.of[k];
+        on[k] = is_above(ceiling, i);
+        number = number + 1;
+    }
+    Marks { on }
+}
+
+// The longest requests with a task's among them.
+fn raised(m: Peaks, b: Task) -> Peaks
+    ensures { λ r. ⌜ RaisedBy m b r ⌝ }
+{
+    let mut longest = [0u32; Table::MAX_RESOURCES];
+    let mut k: usize = 0;
+    while k < Table::MAX_RESOURCES {
+        let p = b.pairs[k];
+        let old = m.longest[k];
+        longest[k] = most(old, p.longest);
+        k = k + 1;
+    }
+    Peaks { longest }
+}
+
+// A task's CT of the resources marked, and of all.
+fn split(m: Marks, b: Task) -> Totals
+    requires { ⌜ GoodTask b ⌝ }
+    ensures { λ r. ⌜ TotalsAre m b r ⌝ }
+{
+    let mut marked: u32 = 0;
+    let mut all: u32 = 0;
+    let mut k: usize = 0;
+    while k < Table::MAX_RESOURCES {
+        let p = b.pairs[k];
+        let on = m.on[k];
+        marked = marked + only(on, p.total);
+        all = all + p.total;
+        k = k + 1;
+    }
+    Totals { marked, all }
+}
+
+// DB (6): N times the longest request below, over the resources.
+fn waiting(m: Peaks, a: Task) -> u64
+    requires { ⌜ SmallPeaks m × GoodTask a ⌝ }
+    ensures { λ r. ⌜ WaitIs m a r ⌝ }
+{
+    let mut sum: u64 = 0;
+    let mut k: usize = 0;
+    while k < Table::MAX_RESOURCES {
+        let p = a.pairs[k];
+        let c = m.longest[k];
+        sum = sum + wide(p.requests) * wide(c);
+        k = k + 1;
+    }
+    sum
+}
+
+// The share of a task above, by the resources that i uses: S, O, F.
+fn upper(mine: Marks, b: Task, short: bool) -> Share
+    requires { ⌜ GoodTask b ⌝ }
+    ensures { λ r. ⌜ UpperIs mine b short r ⌝ }
+{
+    let u = split(mine, b);
+    let other = u.all - u.marked;
+    let free = b.run - u.all;
+    Share {
+        period: b.period,
+        deadline: b.deadline,
+        whole: u.marked,
+        one: unless(short, other),
+        two: unless(short, free),
+    }
+}
+
+// The share of a task below, by the resources with a ceiling above i: L.
+fn lower(above: Marks, b: Task, short: bool) -> Share
+    requires { ⌜ GoodTask b ⌝ }
+    ensures { λ r. ⌜ LowerIs above b short r ⌝ }
+{
+    let u = split(above, b);
+    Share {
+        period: b.period,
+        deadline: b.deadline,
+        whole: 0,
+        one: unless(short, u.marked),
+        two: 0,
+    }
+}
+
+// What the analysis of the task at slot i reads. Whether a ceiling is above i is known once the tasks down to i are.
+pub(crate) fn shares_of(t: Table, i: usize) -> Shares
+    requires { ⌜ (tableFault t ≡ Fine) × (i < t .n) ⌝ }
+    ensures { λ r. ⌜ Reduced (viewOf t) (level i) r ⌝ }
+{
+    let none = Share {
+        period: 0,
+        deadline: 0,
+        whole: 0,
+        one: 0,
+        two: 0,
+    };
+    let mut of = [none; Table::MAX_TASKS];
+    let n = t.n;
+    let a = t.tasks[i];
+    let me = Level((i + 1) as u32);
+    let short = me.0 <= t.cpus;
+    let mine = used_by(a);
+    let unknown = Level(Table::MAX_TASKS as u32 + 1);
+    let mut ceilings = Ceilings {
+        of: [unknown; Table::MAX_RESOURCES],
+    };
+    let mut l: usize = 0;
+    while l < i {
+        let b = t.tasks[l];
+        of[l] = upper(mine, b, short);
+        ceilings = ceilings_with(ceilings, b, Level((l + 1) as u32));
+        l = l + 1;
+    }
+    of[i] = Share {
+        period: a.period,
+        deadline: a.deadline,
+        whole: 0,
+        one: 0,
+        two: 0,
+    };
+    let above = high(ceilings_with(ceilings, a, me), me);
+    let mut peaks = Peaks {
+        longest: [0; Table::MAX_RESOURCES],
+    };
+    let mut j: usize = i + 1;
+    while j < n {
+        let b = t.tasks[j];
+        of[j] = lower(above, b, short);
+        peaks = raised(peaks, b);
+        j = j + 1;
+    }
+    let wait = waiting(peaks, a);
+    Shares {
+        start: a.run,
+        base: wide(a.run) + wait,
+        cpus: wide(t.cpus),
+        n,
+        of,
+    }
+}
