@@ -1,0 +1,175 @@
+//! Tables and listings to compare on: valid ones of many shapes, and damaged ones.
+
+use crate::random::Random;
+use crate::table::{Lock, Table, Task, COUNT, LOCKS, TASKS, TIME};
+
+/// A table that nothing is to be said against.
+pub fn table(r: &mut Random) -> Table {
+    let n = *r.pick(&[1, 2, 3, 4, 6, 8, 12, 20, 31, 32]) as usize;
+    let m = *r.pick(&[1, 1, 2, 2, 3, 4, 4, 8, 16, 64]);
+    let locks = *r.pick(&[0, 1, 1, 2, 4, 8, 16]) as usize;
+    let longest = *r.pick(&[3, 40, 400, 3_000, 60_000, 1_000_000, TIME]);
+    // how much of its period a task runs: few tables would meet if each took much
+    let load = *r.pick(&[1, 2, 4, 10, 30, 100]);
+    let mut table = Table::zero();
+    (table.m, table.n) = (m, n as u64);
+    for slot in 0..n {
+        table.tasks[slot] = task(r, locks, longest, load);
+    }
+    table
+}
+
+fn task(r: &mut Random, locks: usize, longest: u64, load: u64) -> Task {
+    let t = r.within((longest / 10).max(1), longest);
+    let d = if r.one_in(3) { t } else { r.within((t / 2).max(1), t) };
+    let c = r.within(1, (d / load).max(1));
+    let mut task = Task { t, c, d, ..Task::default() };
+    let mut left = c;
+    for k in 0..locks.min(LOCKS) {
+        if left == 0 || r.one_in(2) {
+            continue;
+        }
+        let ct = if r.one_in(8) { left } else { r.within(1, left.div_ceil(3)) };
+        let c = r.within(ct.div_ceil(COUNT), ct);
+        let least = ct.div_ceil(c);
+        let n = if r.one_in(2) { least } else { r.within(least, COUNT) };
+        task.locks[k] = Lock { n, c, ct };
+        left -= ct;
+    }
+    task
+}
+
+/// Some spelling of a time in microseconds.
+pub fn time(r: &mut Random, us: u64) -> String {
+    let (whole, fraction) = (us / 1000, us % 1000);
+    let least = whole.to_string().len();
+    let width = if r.one_in(4) { r.within(least as u64, least.max(5) as u64) as usize } else { least };
+    let mut text = format!("{whole:0width$}");
+    let digits = format!("{fraction:03}");
+    let needed = digits.trim_end_matches('0').len();
+    let kept = if r.one_in(4) { r.within(needed as u64, 3) as usize } else { needed };
+    if kept > 0 {
+        text.push('.');
+        text.push_str(&digits[..kept]);
+    }
+    text
+}
+
+fn count(r: &mut Random, x: u64) -> String {
+    let least = x.to_string().len();
+    let width = if r.one_in(4) { r.within(least as u64, least.max(4) as u64) as usize } else { least };
+    format!("{x:0width$}")
+}
+
+/// A listing of a table, in some spelling, as lines without their LF.
+pub fn lines(r: &mut Random, table: &Table) -> Vec<String> {
+    let mut lines = vec![format!("cpus {}", count(r, table.m))];
+    for task in table.used() {
+        lines.push(format!("task {} {} {}", time(r, task.t), time(r, task.c), time(r, task.d)));
+        for (k, lock) in task.locks.iter().enumerate() {
+            if lock.n > 0 {
+                lines.push(format!("use {} {} {} {}", count(r, k as u64 + 1), count(r, lock.n), time(r, lock.c), time(r, lock.ct)));
+            }
+        }
+    }
+    lines
+}
+
+pub fn join(lines: &[String]) -> Vec<u8> {
+    lines.iter().flat_map(|line| line.bytes().chain([b'\n'])).collect()
+}
+
+/// A field that means trouble, or nearly.
+fn odd_field(r: &mut Random) -> String {
+    r.pick(&[
+        "0", "00000", "0.0", "0.001", "10000", "10000.000", "10000.001", "10001", "99999.999", "100000", "2.", ".5", "2.5000", "2.5.5", "2,5", "-1",
+        "+1", "x", "1x", "1 ", " 1", "", "64", "65", "16", "17", "1000", "1001", "9999", "09999", "00001", "1\r", "1\t", "\u{e9}", "1e3", "0x1", "4294967297",
+    ])
+    .to_string()
+}
+
+/// One change of a line's fields, of the order of lines, or of bytes.
+pub fn damage(r: &mut Random, lines: &mut Vec<String>) -> Vec<u8> {
+    let changes = if r.one_in(3) { 2 } else { 1 };
+    for _ in 0..changes {
+        if lines.is_empty() {
+            break;
+        }
+        let at = r.next() as usize % lines.len();
+        match r.within(0, 9) {
+            0..=3 => {
+                let mut words: Vec<String> = lines[at].split(' ').map(String::from).collect();
+                let w = r.next() as usize % words.len();
+                words[w] = odd_field(r);
+                lines[at] = words.join(" ");
+            }
+            4 => {
+                lines.remove(at);
+            }
+            5 => {
+                let copy = lines[at].clone();
+                lines.insert(at, copy);
+            }
+            6 => {
+                let other = r.next() as usize % lines.len();
+                lines.swap(at, other);
+            }
+            7 => {
+                let word = *r.pick(&["cpus", "task", "use", "tasks", "Use", ""]);
+                let rest = lines[at].split_once(' ').map_or("", |p| p.1).to_string();
+                lines[at] = format!("{word} {rest}");
+            }
+            8 => {
+                let words: Vec<&str> = lines[at].split(' ').collect();
+                let fewer = r.one_in(2);
+                lines[at] = if fewer { words[..words.len() - 1].join(" ") } else { format!("{} 1", lines[at]) };
+            }
+            _ => {
+                let made = format!("use {} {} {} {}", r.within(1, 17), r.within(1, 5), r.within(1, 3), r.within(1, 9));
+                lines.insert(at + 1, made);
+            }
+        }
+    }
+    let mut bytes = join(lines);
+    if r.one_in(3) && !bytes.is_empty() {
+        let at = r.next() as usize % bytes.len();
+        match r.within(0, 4) {
+            0 => bytes[at] = r.next() as u8,
+            1 => bytes[at] = *r.pick(b"0123456789. \n"),
+            2 => {
+                bytes.remove(at);
+            }
+            3 => bytes.insert(at, *r.pick(b"0123456789. \n\r\t\0")),
+            _ => bytes.truncate(at),
+        }
+    }
+    bytes
+}
+
+/// A table of any numbers at all, most of it near the limits.
+pub fn raw_table(r: &mut Random) -> Table {
+    let mut table = table(r);
+    // what stands past the nth slot is not looked at
+    if r.one_in(2) {
+        for slot in table.n as usize..TASKS {
+            table.tasks[slot] = Task { t: r.next() as u32 as u64, c: r.next() as u32 as u64, d: 0, locks: [Lock { n: 7, c: 9, ct: 3 }; LOCKS] };
+        }
+    }
+    for _ in 0..*r.pick(&[0, 1, 1, 1, 2, 3]) {
+        let value = *r.pick(&[0, 1, 2, 16, 17, 32, 33, 64, 65, 1_000, 1_001, TIME, TIME + 1, u32::MAX as u64]);
+        let slot = r.next() as usize % (table.n as usize).clamp(1, TASKS);
+        let k = r.next() as usize % LOCKS;
+        let task = &mut table.tasks[slot];
+        match r.within(0, 7) {
+            0 => table.m = value,
+            1 => table.n = *r.pick(&[0, 1, 2, 3, 31, 32, 33, 64, u32::MAX as u64, u64::MAX]),
+            2 => task.t = value,
+            3 => task.c = value,
+            4 => task.d = value,
+            5 => task.locks[k].n = value,
+            6 => task.locks[k].c = value,
+            _ => task.locks[k].ct = value,
+        }
+    }
+    table
+}

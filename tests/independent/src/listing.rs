@@ -1,0 +1,117 @@
+//! A listing to a table and back. Written from the paper's section 'The listing'.
+
+use crate::table::{Lock, Refusal, Table, Task, BYTES, COUNT, CPUS, LOCKS, TASKS, TIME};
+
+pub fn read(bytes: &[u8]) -> Result<Table, Refusal> {
+    if bytes.len() > BYTES {
+        return Err((1, 0));
+    }
+    if bytes.is_empty() {
+        return Err((2, 1));
+    }
+    let mut reader = Reader { table: Table::zero(), last: 0, sum: 0 };
+    let mut rest = bytes;
+    let mut line = 1;
+    while !rest.is_empty() {
+        let Some(end) = rest.iter().position(|&b| b == b'\n') else {
+            return Err((2, line));
+        };
+        reader.line(line, &rest[..end]).map_err(|number| (number, line))?;
+        rest = &rest[end + 1..];
+        line += 1;
+    }
+    if reader.table.n == 0 {
+        return Err((9, 2));
+    }
+    Ok(reader.table)
+}
+
+struct Reader {
+    table: Table,
+    last: u64,
+    sum: u64,
+}
+
+impl Reader {
+    fn line(&mut self, line: u32, text: &[u8]) -> Result<(), u32> {
+        let words: Vec<&[u8]> = text.split(|&b| b == b' ').collect();
+        if words.iter().any(|w| w.is_empty()) {
+            return Err(2);
+        }
+        match (words[0], words.len()) {
+            (b"cpus", 2) if line == 1 => self.cpus(words[1]),
+            (b"task", 4) if line > 1 => self.task(words[1], words[2], words[3]),
+            (b"use", 5) if self.table.n > 0 => self.lock(&words[1..]),
+            _ => Err(2),
+        }
+    }
+
+    fn cpus(&mut self, m: &[u8]) -> Result<(), u32> {
+        self.table.m = ranged(count(m)?, CPUS)?;
+        Ok(())
+    }
+
+    fn task(&mut self, t: &[u8], c: &[u8], d: &[u8]) -> Result<(), u32> {
+        let (t, c, d) = (time(t)?, time(c)?, time(d)?);
+        if self.table.n == TASKS as u64 {
+            return Err(8);
+        }
+        for x in [t, c, d] {
+            ranged(x, TIME)?;
+        }
+        if c > d || d > t {
+            return Err(5);
+        }
+        self.table.tasks[self.table.n as usize] = Task { t, c, d, locks: [Lock::default(); LOCKS] };
+        self.table.n += 1;
+        (self.last, self.sum) = (0, 0);
+        Ok(())
+    }
+
+    fn lock(&mut self, words: &[&[u8]]) -> Result<(), u32> {
+        let (k, n, c, ct) = (count(words[0])?, count(words[1])?, time(words[2])?, time(words[3])?);
+        ranged(k, LOCKS as u64)?;
+        ranged(n, COUNT)?;
+        ranged(c, TIME)?;
+        ranged(ct, TIME)?;
+        if k <= self.last {
+            return Err(6);
+        }
+        let task = &mut self.table.tasks[self.table.n as usize - 1];
+        self.sum += ct;
+        if ct < c || ct > n * c || self.sum > task.c {
+            return Err(7);
+        }
+        self.last = k;
+        task.locks[k as usize - 1] = Lock { n, c, ct };
+        Ok(())
+    }
+}
+
+fn ranged(x: u64, most: u64) -> Result<u64, u32> {
+    if (1..=most).contains(&x) { Ok(x) } else { Err(4) }
+}
+
+fn digits(text: &[u8], most: usize) -> Result<u64, u32> {
+    if text.is_empty() || text.len() > most || !text.iter().all(u8::is_ascii_digit) {
+        return Err(3);
+    }
+    Ok(std::str::from_utf8(text).unwrap().parse().unwrap())
+}
+
+pub fn count(text: &[u8]) -> Result<u64, u32> {
+    digits(text, 4)
+}
+
+/// Milliseconds with up to three decimals, in microseconds.
+pub fn time(text: &[u8]) -> Result<u64, u32> {
+    match text.iter().position(|&b| b == b'.') {
+        None => Ok(digits(text, 5)? * 1000),
+        Some(at) => {
+            let (whole, fraction) = (&text[..at], &text[at + 1..]);
+            let scale = [0, 100, 10, 1];
+            let (w, f) = (digits(whole, 5)?, digits(fraction, 3)?);
+            Ok(w * 1000 + f * scale[fraction.len()])
+        }
+    }
+}

@@ -1,0 +1,91 @@
+//! A task table, and the check of a table that is handed over directly. Written from the paper's section 'Refusals by number'.
+
+pub const CPUS: u64 = 64;
+pub const TASKS: usize = 32;
+pub const LOCKS: usize = 16;
+pub const TIME: u64 = 10_000_000;
+pub const COUNT: u64 = 1_000;
+pub const BYTES: usize = 65_536;
+
+#[derive(Clone, Copy, Default, PartialEq, Eq, Debug)]
+pub struct Lock {
+    pub n: u64,
+    pub c: u64,
+    pub ct: u64,
+}
+
+#[derive(Clone, Copy, Default, PartialEq, Eq, Debug)]
+pub struct Task {
+    pub t: u64,
+    pub c: u64,
+    pub d: u64,
+    pub locks: [Lock; LOCKS],
+}
+
+/// `n` and the slots may hold anything: a table that is handed over is checked.
+#[derive(Clone, PartialEq, Eq, Debug)]
+pub struct Table {
+    pub m: u64,
+    pub n: u64,
+    pub tasks: [Task; TASKS],
+}
+
+/// A refusal: its number and its place.
+pub type Refusal = (u32, u32);
+
+impl Table {
+    pub fn zero() -> Table {
+        Table { m: 0, n: 0, tasks: [Task::default(); TASKS] }
+    }
+
+    /// The tasks in use, of a table that was checked.
+    pub fn used(&self) -> &[Task] {
+        &self.tasks[..self.n as usize]
+    }
+
+    pub fn check(&self) -> Result<(), Refusal> {
+        if self.n == 0 {
+            return Err((9, 0));
+        }
+        if self.n > TASKS as u64 {
+            return Err((8, 0));
+        }
+        if !(1..=CPUS).contains(&self.m) {
+            return Err((4, 0));
+        }
+        for (index, task) in self.used().iter().enumerate() {
+            task.check().map_err(|number| (number, index as u32 + 1))?;
+        }
+        Ok(())
+    }
+}
+
+impl Task {
+    fn check(&self) -> Result<(), u32> {
+        for time in [self.t, self.c, self.d] {
+            if !(1..=TIME).contains(&time) {
+                return Err(4);
+            }
+        }
+        if self.c > self.d || self.d > self.t {
+            return Err(5);
+        }
+        let mut sum = 0;
+        for lock in &self.locks {
+            if lock.n == 0 {
+                if lock.c != 0 || lock.ct != 0 {
+                    return Err(4);
+                }
+                continue;
+            }
+            if lock.n > COUNT || !(1..=TIME).contains(&lock.c) || !(1..=TIME).contains(&lock.ct) {
+                return Err(4);
+            }
+            sum += lock.ct;
+            if lock.ct < lock.c || lock.ct > lock.n * lock.c || sum > self.c {
+                return Err(7);
+            }
+        }
+        Ok(())
+    }
+}
