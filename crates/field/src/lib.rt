@@ -17,7 +17,7 @@ pub enum Run {
     Long,
 }
 
-mod writing;
+pub mod writing;
 
 pub use writing::count_len;
 pub use writing::put_count;

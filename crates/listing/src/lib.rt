@@ -1,9 +1,10 @@
-// A listing to a table.
+// A listing to a table, and a table to a listing.
 ghost use mathlib.Core.Path.{_≡_};
 ghost use Prim.Native.Nat.{_≤_};
 ghost use lib.ListN.{length};
 ghost use Rattle.listing.specs.Lines.{line};
 ghost use Rattle.listing.specs.Read.{newTask, pastAfter, refused, readListing};
+ghost use Rattle.listing.specs.Write.{writeAnswer, written};
 use table::Checked;
 use table::Fault;
 use table::Pair;
@@ -13,18 +14,19 @@ use table::Table;
 use table::Task;
 
 mod line;
+mod text;
 
 // What the lines so far leave for the next one to be judged by: the tasks so far; and of the last of them its C, the K of its last
 // `use` line (0: none), and the sum of its CT.
-struct Past {
-    tasks: usize,
-    run: u32,
-    last: Resource,
-    sum: u32,
+pub struct Past {
+    pub tasks: usize,
+    pub run: u32,
+    pub last: Resource,
+    pub sum: u32,
 }
 
 // What a line says, or why it is refused.
-enum Said {
+pub enum Said {
     Cpus(u32),
     Task(u32, u32, u32),
     Use(Resource, Pair),
@@ -35,6 +37,12 @@ enum Said {
 pub struct Reading {
     pub answer: Checked,
     pub table: Table,
+}
+
+// How many bytes were written, or why none were.
+pub enum Written {
+    Wrote(usize),
+    NotWritten(Refusal),
 }
 
 impl Past {
@@ -160,4 +168,20 @@ pub fn read(listing: &[u8]) -> Reading
         answer: Checked::Fine,
         table,
     }
+}
+
+// The text of a table, at the start of out.
+pub fn write(t: Table, out: &mut [u8]) -> Written
+    ensures { λ r. ⌜ (r ≡ writeAnswer t (length (now (out .entry)))) × (now (out .exit) ≡ written t (now (out .entry))) ⌝ }
+{
+    if let Checked::Refused(r) = table::check(t) {
+        return Written::NotWritten(r);
+    }
+    if out.len() < text::table_len(t) {
+        return Written::NotWritten(Refusal {
+            fault: Fault::TooShort,
+            place: 0,
+        });
+    }
+    Written::Wrote(text::put_table(out, t))
 }

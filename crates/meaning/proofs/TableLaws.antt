@@ -4,7 +4,7 @@ use Prim.Native.Nat.{ℕ, zero, suc, _+_, _-_, _≤_, _<_}
 use mathlib.Core.Path.{_≡_, refl, sym, ap, _∙_}
 use mathlib.Core.List.{List, [], _∷_, _++_}
 use native.Mathlib.Omega.{arith}
-use native.Mathlib.Nat.{not-suc-le-zero, zero-add, add-zero}
+use native.Mathlib.Nat.{not-suc-le-zero, zero-add, add-zero, le-refl}
 use native.Mathlib.Decide.{ℕ-discrete}
 use lib.ListN.{length, getD, set, replicate, length-append, length-set, getD-replicate, List·getD-append}
 use lib.Seq.{getD-at, getD-set-same, getD-set-other, set-set, ext-getD}
@@ -42,6 +42,11 @@ module _ {A : Type 0} where
   row-is : (n : ℕ) (g : ℕ → A) (d : A) (l : List A) → length l ≡ n → ((k : ℕ) → k < n → getD l k d ≡ g k) → l ≡ rowTo n g
   row-is n g d l e each =
       ext-getD d l (rowTo n g) (e ∙ sym (row-length n g)) (λ k h. each k (omega arith) ∙ sym (row-at n k g d (omega arith)))
+
+  pub row-eq : (n : ℕ) (g h : ℕ → A) → ((k : ℕ) → k < n → g k ≡ h k) → rowTo n g ≡ rowTo n h
+  unfolding rowTo
+  row-eq zero g h each = refl
+  row-eq (suc n) g h each = rw (row-eq n g h (λ k l. each k (omega arith)), each n (le-refl (suc n)))
 
 -- ---- the pairs of a task, stored use by use
 

@@ -15,18 +15,18 @@ use Rattle.table.specs.declared.Fault.the-variants.{TooLong}
 use Rattle.table.specs.Limits.{maxListing}
 use Rattle.table.specs.Empty.{emptyTable}
 use Rattle.table.proofs.Acceptance.{accepted-fine}
 use Rattle.listing.specs.declared.Said.{Said}
 use Rattle.listing.specs.declared.Said.the-variants.{Cpus}
 use Rattle.listing.specs.Lines.{form, lines, endsInLF}
 use Rattle.listing.specs.Read.{countIn, lineSays, fresh, pastAfter, tableAfter, accepted, refused, onSaid, readEnd, readLines, readListing}
 use Rattle.listing.specs.Figures.{UseFigures, Figures, StatesUses, StatesFigures, cpus-line, GoodUses, GoodFigures, tableOf}
-use Rattle.listing.specs.Meaning.{Correct, Complete, PassesCheck}
+use Rattle.meaning.specs.Meaning.{Correct, Complete, PassesCheck}
 use Rattle.listing.proofs.Says.{CpusRules, Line, is-cpus, is-task, is-use, is-not, line-is}
-use Rattle.listing.proofs.SaysLaws.{says-cpus}
-use Rattle.listing.proofs.SplitLaws.{Start, start-of, none, more, start-text, count-in, count-word, count-stated}
-use Rattle.listing.proofs.TableLaws.{stored}
-use Rattle.listing.proofs.FigureLaws.{good-table}
-use Rattle.listing.proofs.ReadStates.{Stating, refused-not, read-states, readText, line-read, tasks-read}
+use Rattle.meaning.proofs.SaysLaws.{says-cpus}
+use Rattle.meaning.proofs.SplitLaws.{Start, start-of, none, more, start-text, count-in, count-word, count-stated}
+use Rattle.meaning.proofs.TableLaws.{stored}
+use Rattle.meaning.proofs.FigureLaws.{good-table}
+use Rattle.meaning.proofs.ReadStates.{Stating, refused-not, read-states, readText, line-read, tasks-read}
 
 -- ---- correct
 

@@ -18,17 +18,17 @@ use Rattle.table.specs.declared.Refusal.{Refusal}
 use Rattle.table.specs.declared.Checked.the-variants.{Fine, Refused}
 use Rattle.table.specs.declared.Fault.the-variants.{BadForm, NoTask}
 use Rattle.table.specs.Limits.{maxTasks}
 use Rattle.listing.specs.declared.Past.{Past}
 use Rattle.listing.specs.declared.Said.{Said}
 use Rattle.listing.specs.declared.Said.the-variants.{Task as TaskLine, Use}
 use Rattle.listing.specs.declared.Reading.{Reading}
 use Rattle.listing.specs.Lines.{others, form, lines, endsInLF}
 use Rattle.listing.specs.Read.{countIn, timeIn, lineSays, fresh, pastAfter, tableAfter, accepted, refused, onSaid, readEnd, readLines}
 use Rattle.listing.specs.Figures.{UseFigures, TaskFigures, lineOf, StatesUses, use-line, StatesTasks, task-line, GoodUses, GoodTasks}
 use Rattle.listing.proofs.Says.{TaskRules, UseRules, Line, is-cpus, is-task, is-use, is-not, line-is}
-use Rattle.listing.proofs.SaysLaws.{says-task, says-use}
-use Rattle.listing.proofs.SplitLaws.{Start, start-of, no-line, Word, Words, none, more, row-line, row-form, listed, start-text, count-in, time-in, count-word, time-word, count-stated, time-stated}
-use Rattle.listing.proofs.TableLaws.{storeUses, storeTasks}
+use Rattle.meaning.proofs.SaysLaws.{says-task, says-use}
+use Rattle.meaning.proofs.SplitLaws.{Start, start-of, no-line, Word, Words, none, more, row-line, row-form, listed, start-text, count-in, time-in, count-word, time-word, count-stated, time-stated}
+use Rattle.meaning.proofs.TableLaws.{storeUses, storeTasks}
 
 -- ---- from what is read to what is stated
 

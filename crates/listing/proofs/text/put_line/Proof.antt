@@ -1,0 +1,63 @@
+-- `listing::text::put_line` meets its contract: the word, each field and the LF are put at the place behind what was put before. Assumes nothing.
+use mathlib.Core.List.{_∷_, append-assoc}
+use native.Mathlib.Omega.{arith}
+use Rattle.basics.specs.Text.{bytes}
+use Rattle.basics.proofs.FillLaws.{filled-none}
+use Rattle.field.specs.Text.{timeText}
+use Rattle.listing.specs.Write.{timesText}
+use Rattle.listing.proofs.WriteLaws.{filled-at, filled-is, times-length}
+use borrow.Author.Needs.{needs}
+use Rattle.listing.proofs.text.put_line.Statement.{statement}
+use Rattle.listing.proofs.text.put_line.Tie as tie
+
+slice-aggregate-put : tie.Need-slice-aggregate-put
+slice-aggregate-put c = search needs
+
+put-requires : tie.Need-put-requires
+put-requires c κs = search needs
+
+put-time-requires : tie.Need-put-time-requires
+put-time-requires c κs = omega (arith, times-length (c .before .before .before .before .before .before .before .args .x))
+
+put-time-requires-2 : tie.Need-put-time-requires-2
+put-time-requires-2 c κs = omega (arith, times-length (c .before .before .before .before .before .before .before .before .before .before .before .args .x))
+
+put-time-requires-3 : tie.Need-put-time-requires-3
+put-time-requires-3 c κs = omega (arith, times-length (c .before .before .before .before .before .before .before .before .before .before .before .before .before .before .before .args .x))
+
+slice-aggregate-put-2 : tie.Need-slice-aggregate-put-2
+slice-aggregate-put-2 c = search needs
+
+put-requires-2 : tie.Need-put-requires-2
+put-requires-2 c κs = omega (arith, times-length (c .before .before .before .before .before .before .before .before .before .before .before .before .before .before .before .before .before .before .before .before .args .x))
+
+same-length : tie.Need-same-length
+same-length c = search needs
+
+returns : tie.Need-returns
+returns c =
+    let e = c .before .before in
+    let d = e .before .before .before .before .before in
+    let r = d .before .before .before .before in
+    let t = r .before .before .before .before in
+    let w = t .before .before .before .before in
+    let a = w .before .before .before .before .args in
+    let f₁ = filled-at (filled-none (a .out .now)) (bytes "task") (w .put .kept .0) (w .put .ensures) in
+    let f₂ = filled-at f₁ (32 ∷ timeText (a .x .period)) (t .put-time .kept .0) (t .put-time .ensures) in
+    let f₃ = filled-at f₂ (32 ∷ timeText (a .x .run)) (r .put-time2 .kept .0) (r .put-time2 .ensures) in
+    let f₄ = filled-at f₃ (32 ∷ timeText (a .x .deadline)) (d .put-time3 .kept .0) (d .put-time3 .ensures) in
+    filled-is (timesText (a .x)) (filled-at f₄ (bytes "\n") (e .put2 .kept .0) (e .put2 .ensures)) (simp append-assoc)
+
+pub put-line-spec : {M : Type 1} → statement M
+put-line-spec =
+    tie.close
+    (tie.spec
+    slice-aggregate-put
+    put-requires
+    put-time-requires
+    put-time-requires-2
+    put-time-requires-3
+    slice-aggregate-put-2
+    put-requires-2
+    same-length
+    returns)

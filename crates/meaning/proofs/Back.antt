@@ -1,0 +1,126 @@
+-- Reading what was written (specs/Back.antt).
+-- Assumes nothing.
+use Prim.Native.Nat.{ℕ, zero, suc, _≤_, _<_}
+use mathlib.Core.Path.{_≡_, refl, sym, ap, _∙_}
+use mathlib.Core.Bool.{Bool, true, false}
+use mathlib.Core.List.{List, [], _∷_}
+use native.Mathlib.Omega.{arith}
+use lib.ListN.{length, length-append}
+use lib.Dec.{ltb, leb·suc-suc}
+use borrow.Author.Tests.{lt-ltb, le-ltb}
+use Rattle.basics.specs.Choice.{pick}
+use Rattle.basics.proofs.OverLaws.{join-eq, join-bound}
+use Rattle.table.specs.declared.Pair.{Pair}
+use Rattle.table.specs.declared.Task.{Task}
+use Rattle.table.specs.Limits.{maxTasks, maxResources}
+use Rattle.table.specs.Empty.{unusedPair, emptyTask}
+use Rattle.table.specs.At.{noTask, taskAt, pairOf, SameTask}
+use Rattle.table.specs.Accepted.{PairBounds, GoodTask}
+use Rattle.table.proofs.Acceptance.{pair-bounds, fine-accepted}
+use Rattle.field.specs.Text.{countText}
+use Rattle.field.proofs.TextLaws.{count-text, time-length}
+use Rattle.listing.specs.Read.{accepted}
+use Rattle.listing.specs.Figures.{TaskFigures, Figures, pairFor, taskOf, taskFor, tableOf}
+use Rattle.listing.specs.Write.{useText, pairText, taskText, textOf}
+use Rattle.meaning.specs.Back.{clearedTask, cleared, TextFits, ReadsBack, ClearedSame, Rewrites, SameText}
+use Rattle.meaning.proofs.TableLaws.{row-at, row-eq, table}
+use Rattle.meaning.proofs.Meaning.{correct, complete, passes-check}
+use Rattle.meaning.proofs.TextFigures.{text-states}
+
+-- ---- how long a text is
+
+count-few : (n : ℕ) → n ≤ 9_999 → length (countText n) ≤ 4
+count-few n h = count-text n h .digits .few
+
+pair-fits : (x : Task) (k : ℕ) → k < maxResources → PairBounds (pairOf x k) → length (pairText x k) ≤ 38
+unfolding pairText useText
+pair-fits x k h b = go (ltb 0 (pairOf x k .requests))
+  where
+    p : Pair
+    p = pairOf x k
+
+    go : (u : Bool) → length (pick u (useText (suc k) p) []) ≤ 38
+    go true =
+        simp length-append
+        (omega (
+          arith,
+          count-few (suc k) (omega arith),
+          count-few (p .requests) (omega arith),
+          time-length (p .longest) (omega arith),
+          time-length (p .total) (omega arith),
+        ))
+    go false = omega arith
+
+task-fits : (x : Task) → GoodTask x → length (taskText x) ≤ 649
+unfolding taskText
+task-fits x g =
+    simp length-append
+    (omega (
+      arith,
+      time-length (x .period) (omega arith),
+      time-length (x .run) (omega arith),
+      time-length (x .deadline) (omega arith),
+      join-bound maxResources 38 (pairText x) (λ k h. pair-fits x k h (pair-bounds (pairOf x k) (g .pair k h))),
+    ))
+
+pub text-fits : TextFits
+unfolding textOf
+text-fits t e =
+    let a = fine-accepted t e in
+    simp length-append
+    (omega (
+      arith,
+      count-few (t .cpus) (omega arith),
+      join-bound (t .n) 649 (λ i. taskText (taskAt t i)) (λ i h. task-fits (taskAt t i) (a .task i h)),
+    ))
+
+-- ---- the text is read as the table
+
+pub reads-back : ReadsBack
+reads-back t e =
+    let r = text-states t (fine-accepted t e) in
+    rw (r .3) (complete (textOf t) (r .0) (text-fits t e) (r .1) (r .2))
+
+pub cleared-same : ClearedSame
+unfolding cleared clearedTask
+cleared-same t e =
+    record {
+      cpus = refl;
+      n = refl;
+      tasks = λ i h.
+          rw (row-at maxTasks i _ noTask (omega (arith, fine-accepted t e .tasks-most)), lt-ltb i (t .n) h)
+          (record { period = refl; run = refl; deadline = refl; pairs = λ k l. sym (row-at maxResources k (pairOf (taskAt t i)) unusedPair l) });
+    }
+
+-- ---- a table that holds figures is clear already
+
+task-clear : (x : TaskFigures) → clearedTask (taskOf x) ≡ taskOf x
+unfolding clearedTask taskOf
+task-clear x = rw (row-eq maxResources (pairOf (taskOf x)) (pairFor (x .uses)) (λ k h. row-at maxResources k (pairFor (x .uses)) unusedPair h))
+
+tasks-clear : (xs : List TaskFigures) (i : ℕ) → pick (ltb i (length xs)) (clearedTask (taskFor xs i)) emptyTask ≡ taskFor xs i
+tasks-clear [] i = rw (le-ltb i 0 (omega arith))
+tasks-clear (x ∷ xs) zero = rw (lt-ltb 0 (suc (length xs)) (omega arith)) (task-clear x)
+tasks-clear (x ∷ xs) (suc i) = rw leb·suc-suc (tasks-clear xs i)
+
+table-clear : (f : Figures) → cleared (tableOf f) ≡ tableOf f
+unfolding cleared tableOf
+table-clear f =
+    ap (table (f .M) (length (f .tasks)))
+    (row-eq maxTasks _ _ (λ i h. rw (row-at maxTasks i (taskFor (f .tasks)) noTask h) (tasks-clear (f .tasks) i)))
+
+pub rewrites : Rewrites
+rewrites s t q =
+    let f = correct s t q in
+    reads-back t (passes-check s t q) ∙ ap accepted (rw (f .3) (table-clear (f .0)))
+
+-- ---- tables that are the same
+
+task-text : (x y : Task) → SameTask x y → taskText x ≡ taskText y
+unfolding taskText pairText
+task-text x y s = rw (s .period, s .run, s .deadline, join-eq maxResources (pairText x) (pairText y) (λ k h. rw (s .pairs k h)))
+
+pub same-text : SameText
+unfolding textOf
+same-text a b s =
+    rw (s .cpus, join-eq (a .n) (λ i. taskText (taskAt a i)) (λ i. taskText (taskAt b i)) (λ i h. task-text (taskAt a i) (taskAt b i) (s .tasks i h)), s .n)

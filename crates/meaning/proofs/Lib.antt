@@ -1,0 +1,16 @@
+--   SplitLaws     a line's text and its fields
+--   SaysLaws      a line of that form, with figures that obey the rules, says them
+--   TableLaws     tables by rows and by stores
+--   FigureLaws    good figures make an accepted table
+--   ReadStates    from what is read to what is stated, and back
+--   Meaning       correct, complete, passes-check
+--   TextFigures   the text of an accepted table states its figures
+--   Back          text-fits, reads-back, cleared-same, rewrites, same-text
+pub mod SplitLaws
+pub mod SaysLaws
+pub mod TableLaws
+pub mod FigureLaws
+pub mod ReadStates
+pub mod Meaning
+pub mod TextFigures
+pub mod Back

@@ -1,0 +1,145 @@
+-- The text of an accepted table states figures that obey the rules, and the table that holds them is the table itself, with zeros past
+-- the nth task.
+-- Assumes nothing.
+use Prim.Native.Nat.{ℕ, zero, suc, _+_, _≤_, _<_}
+use mathlib.Core.Path.{_≡_, refl, sym, ap, _∙_}
+use mathlib.Core.List.{List, [], _∷_, _++_, append-assoc}
+use mathlib.Core.Logic.{_⊎_, inl, inr}
+use native.Mathlib.Omega.{arith}
+use native.Mathlib.Decide.{ℕ-discrete}
+use lib.ListN.{length}
+use lib.Dec.{ltb}
+use borrow.Author.Tests.{lt-ltb, le-ltb, eq-eqb, ne-eqb}
+use Rattle.basics.specs.Choice.{pick}
+use Rattle.basics.specs.Over.{sumTo, joinTo}
+use Rattle.basics.proofs.OverLaws.{sum-rises, join-from}
+use Rattle.table.specs.declared.Task.{Task}
+use Rattle.table.specs.declared.Table.{Table}
+use Rattle.table.specs.Limits.{maxTasks, maxResources}
+use Rattle.table.specs.Empty.{unusedPair, emptyTask}
+use Rattle.table.specs.At.{taskAt, pairOf, totalOf}
+use Rattle.table.specs.Accepted.{GoodPair, GoodTask, Accepted}
+use Rattle.field.proofs.TextLaws.{count-text, time-text}
+use Rattle.listing.specs.Figures.{UseFigures, TaskFigures, Figures, StatesUses, StatesTasks, StatesFigures, cpus-line, GoodUses, GoodTasks, GoodFigures, pairFor, taskOf, taskFor, tableOf}
+use Rattle.listing.specs.Write.{useText, pairText, taskText, textOf}
+use Rattle.meaning.specs.Back.{clearedTask, cleared}
+use Rattle.meaning.proofs.TableLaws.{row-eq}
+
+-- ---- a task's uses
+
+-- s states the uses of x from resource k + 1 on: they obey the rules after any uses of the resources before, and hold x's pairs
+record UsesFrom (x : Task) (k : ℕ) (s : List ℕ) : Type 0 where
+  uses : List UseFigures
+  states : StatesUses s uses
+  good : (last sum : ℕ) → last ≤ k → sum ≤ sumTo k (totalOf x) → GoodUses (x .run) last sum uses
+  low : (j : ℕ) → j < k → pairFor uses j ≡ unusedPair
+  at : (j : ℕ) → k ≤ j → j < maxResources → pairFor uses j ≡ pairOf x j
+
+module _ {x : Task} {k : ℕ} {s : List ℕ} (r : UsesFrom x (suc k) s) where
+  -- a pair that is not in use is not written
+  skip-use : pairOf x k ≡ unusedPair → UsesFrom x k s
+  unfolding sumTo
+  skip-use e =
+      record {
+        uses = r .uses;
+        states = r .states;
+        good = λ last sum a b. r .good last sum (omega arith) (omega arith);
+        low = λ j h. r .low j (omega arith);
+        at = λ j a b. go j a b (ℕ-discrete k j);
+      }
+    where
+      go : (j : ℕ) → k ≤ j → j < maxResources → Dec (k ≡ j) → pairFor (r .uses) j ≡ pairOf x j
+      go j a b (yes q) = r .low j (omega arith) ∙ sym (rw q at e)
+      go j a b (no q) = r .at j (omega arith) b
+
+  write-use : GoodTask x → k < maxResources → GoodPair (pairOf x k) → UsesFrom x k (useText (suc k) (pairOf x k) ++ s)
+  unfolding useText sumTo
+  write-use g h p =
+      record {
+        uses = u ∷ r .uses;
+        states = StatesUses.use-line {u = u} (count-text _ (omega arith)) (count-text _ (omega arith)) (time-text _ (omega arith)) (time-text _ (omega arith)) (r .states);
+        good = λ last sum a b.
+            GoodUses.one-use {last = last} {sum = sum} {u = u} (omega arith) h p (omega (arith, sum-rises (suc k) maxResources (totalOf x) h, g .totals))
+            (r .good _ _ (omega arith) (omega arith));
+        low = λ j h. rw (ne-eqb (suc k) (suc j) (λ e. omega arith)) (r .low j (omega arith));
+        at = λ j a b. go j a b (ℕ-discrete k j);
+      }
+    where
+      u : UseFigures
+      u = record { K = suc k; pair = pairOf x k }
+
+      go : (j : ℕ) → k ≤ j → j < maxResources → Dec (k ≡ j) → pairFor (u ∷ r .uses) j ≡ pairOf x j
+      go j a b (yes e) = rw (eq-eqb (suc k) (suc j) (ap suc e), e)
+      go j a b (no e) = rw (ne-eqb (suc k) (suc j) (λ z. omega arith)) (r .at j (omega arith) b)
+
+uses-from : (x : Task) → GoodTask x → UsesFrom x 0 (joinTo maxResources (pairText x))
+unfolding pairText
+uses-from x g =
+    join-from (UsesFrom x) maxResources (pairText x) (λ k s h r. go k s h r (g .pair k h))
+    (record { uses = []; states = StatesUses.no-use; good = λ last sum a b. GoodUses.no-use; low = λ j h. refl; at = λ j a b. absurd (omega arith) })
+  where
+    go : (k : ℕ) (s : List ℕ) → k < maxResources → UsesFrom x (suc k) s → (pairOf x k ≡ unusedPair) ⊎ GoodPair (pairOf x k) → UsesFrom x k (pairText x k ++ s)
+    go k s h r (inl e) = rw e (skip-use r e)
+    go k s h r (inr p) = rw (lt-ltb 0 (pairOf x k .requests) (p .requests-least)) (write-use r g h p)
+
+-- ---- the tasks
+
+-- s states the tasks of t from task k + 1 on: they obey the rules, and make the tasks of `cleared t`
+record TasksFrom (t : Table) (k : ℕ) (s : List ℕ) : Type 0 where
+  tasks : List TaskFigures
+  states : StatesTasks s tasks
+  good : GoodTasks tasks
+  count : k + length tasks ≡ t .n
+  at : (i j : ℕ) → j ≡ k + i → taskFor tasks i ≡ pick (ltb j (t .n)) (clearedTask (taskAt t j)) emptyTask
+
+task-from : {t : Table} {k : ℕ} {s : List ℕ} → TasksFrom t (suc k) s → k < t .n → GoodTask (taskAt t k) → TasksFrom t k (taskText (taskAt t k) ++ s)
+unfolding taskText taskOf clearedTask
+task-from {t} {k} {s} r h g =
+    record {
+      tasks = y ∷ r .tasks;
+      states =
+          rw (append-assoc _ (joinTo maxResources (pairText x)) s)
+          (StatesTasks.task-line {x = y} (time-text _ (omega arith)) (time-text _ (omega arith)) (time-text _ (omega arith)) (w .states) (r .states));
+      good = GoodTasks.one-task (record { times = g .times; uses = w .good 0 0 (omega arith) (omega arith) }) (r .good);
+      count = omega arith;
+      at = at;
+    }
+  where
+    x : Task
+    x = taskAt t k
+
+    w : UsesFrom x 0 (joinTo maxResources (pairText x))
+    w = uses-from x g
+
+    y : TaskFigures
+    y = record { T = x .period; C = x .run; D = x .deadline; uses = w .uses }
+
+    at : (i j : ℕ) → j ≡ k + i → taskFor (y ∷ r .tasks) i ≡ pick (ltb j (t .n)) (clearedTask (taskAt t j)) emptyTask
+    at zero j e =
+        let q : j ≡ k = omega arith in
+        rw (q, lt-ltb k (t .n) h, row-eq maxResources (pairFor (w .uses)) (pairOf x) (λ i l. w .at i (omega arith) l))
+    at (suc i) j e = r .at i j (omega arith)
+
+tasks-from : (t : Table) → Accepted t → TasksFrom t 0 (joinTo (t .n) (λ i. taskText (taskAt t i)))
+tasks-from t a =
+    join-from (TasksFrom t) (t .n) (λ i. taskText (taskAt t i)) (λ k s h r. task-from r h (a .task k h))
+    (record {
+      tasks = [];
+      states = StatesTasks.no-task;
+      good = GoodTasks.no-task;
+      count = omega arith;
+      at = λ i j e. rw (le-ltb j (t .n) (omega arith));
+    })
+
+-- ---- the whole text
+
+pub text-states : (t : Table) → Accepted t → (f : Figures) × StatesFigures (textOf t) f × GoodFigures f × (cleared t ≡ tableOf f)
+unfolding textOf tableOf cleared
+text-states t a =
+    let r = tasks-from t a in
+    let e : t .n ≡ length (r .tasks) = omega arith in (
+      record { M = t .cpus; tasks = r .tasks },
+      cpus-line (count-text (t .cpus) (omega arith)) (r .states),
+      record { cpus-least = a .cpus-least; cpus-most = a .cpus-most; tasks-least = omega arith; tasks-most = omega arith; tasks = r .good },
+      rw (← row-eq maxTasks (taskFor (r .tasks)) _ (λ i h. r .at i i (omega arith)), ← e),
+    )
