@@ -1,4 +1,5 @@
 -- Laws and theorems of the analysis' code.
+--   ByIterates    a verdict by computing a few iterates
 --   PointsHold    the paper's points
 --   CeilingLaws   the ceilings that the pass keeps
 --   PassShares    the shares that the pass makes; Reduce: their demand is the table's
@@ -7,6 +8,7 @@
 --   RoundLaws     a round, and the rounds
 --   RowLaws       the row of records, from the front; Lies: an array as what a slice borrows
 --   Determined    two answers are equal
+pub mod ByIterates
 pub mod PointsHold
 pub mod CeilingLaws
 pub mod PassShares
