@@ -1,0 +1,2 @@
+-- What the report program prints (document 01, "The report program").
+pub mod Report

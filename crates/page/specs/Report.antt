@@ -1,0 +1,58 @@
+-- The text that the report program prints for a listing: document 01, "The report program".
+use Prim.Native.Nat.{ℕ, zero, suc}
+use mathlib.Core.List.{List, [], _∷_, _++_}
+use lib.ListN.{getD}
+use Rattle.basics.specs.Text.{bytes}
+use Rattle.table.specs.declared.Refusal.{Refusal}
+use Rattle.table.specs.declared.Table.{Table}
+use Rattle.table.specs.declared.Checked.{Checked}
+use Rattle.table.specs.declared.Checked.the-variants.{Fine, Refused}
+use Rattle.table.specs.Limits.{maxTasks}
+use Rattle.table.specs.Faults.{numberOf, _then_}
+use Rattle.field.specs.Text.{countText}
+use Rattle.theory.specs.declared.Verdict.{Verdict}
+use Rattle.theory.specs.declared.Verdict.the-variants.{Meets, Misses}
+use Rattle.theory.specs.View.{level}
+use Rattle.listing.specs.Read.{readListing}
+use Rattle.analysis.specs.declared.Record.{Record}
+use Rattle.analysis.specs.Tables.{verdictIn}
+use Rattle.analysis.specs.Answers.{analysisFault}
+
+-- "Refused, it prints one line, as `refused 9 line 2`: the number, then the place."
+unfoldable pub refusalText : Refusal → List ℕ
+refusalText r = bytes "refused " ++ (countText (numberOf (r .fault)) ++ (bytes " line " ++ (countText (r .place) ++ bytes "\n")))
+
+-- "`meets` and the bound in microseconds, or `misses` and `-`"
+unfoldable pub verdictText : Verdict → List ℕ
+verdictText (Meets t) = bytes " meets " ++ countText t
+verdictText Misses = bytes " misses -"
+
+-- "for each task its number", then its verdict
+unfoldable pub rowText : ℕ → Verdict → List ℕ
+rowText number v = countText number ++ (verdictText v ++ bytes "\n")
+
+-- "Else a header", and the rows of the first n tasks
+unfoldable pub rowsText : Table → ℕ → List ℕ
+rowsText t zero = bytes "task verdict bound_us\n"
+rowsText t (suc n) = rowsText t n ++ rowText (suc n) (verdictIn t (level n))
+
+abbrev pub orRefusal : Checked → List ℕ → List ℕ
+orRefusal Fine text = text
+orRefusal (Refused r) text = refusalText r
+
+-- the reading's refusal, or the analysis', or the verdicts
+unfoldable pub reportText : List ℕ → List ℕ
+reportText s =
+    let r = readListing s in
+    let t = r .table in
+    orRefusal (r .answer then analysisFault t maxTasks) (rowsText t (t .n))
+
+-- ---- the same from a row of records, as the program has it
+
+-- what the checker reads past a row's end
+abbrev pub noRecord : Record
+noRecord = record { task = record { 0 = 0 }; verdict = Meets 0 }
+
+unfoldable pub recordsText : List Record → ℕ → List ℕ
+recordsText row zero = bytes "task verdict bound_us\n"
+recordsText row (suc n) = recordsText row n ++ rowText (getD row n noRecord .task .0) (getD row n noRecord .verdict)

@@ -1,0 +1,1 @@
+// No code: the text that the report program prints.

@@ -1,0 +1,2 @@
+-- The laws of the report's text.
+pub mod ReportLaws

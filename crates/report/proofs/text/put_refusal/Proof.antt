@@ -1,0 +1,146 @@
+-- `report::text::put_refusal` meets its contract: each part is put where the one before it ended, at most 34 bytes before the LF. Assumes nothing.
+use mathlib.Core.List.{append-assoc}
+use native.Mathlib.Omega.{arith}
+use Rattle.basics.specs.Text.{bytes}
+use Rattle.field.specs.Text.{countText}
+use Rattle.page.specs.Report.{refusalText}
+use Rattle.report.proofs.ReportLaws.{Upto, upto-first, upto-more, upto-in, upto-room, upto-done, count-most}
+use borrow.Author.Needs.{needs}
+use Rattle.report.proofs.text.put_refusal.Statement.{statement}
+use Rattle.report.proofs.text.put_refusal.Tie as tie
+
+-- the output after each part
+abbrev one : (c : tie.After-put) → Upto (c .before .before .before .before .args .out .now) 8
+one c = upto-first (bytes "refused ") (c .put .kept .0) (c .put .ensures) (omega arith)
+
+abbrev two : (c : tie.After-put-number) → Upto (c .before .before .before .before .before .before .before .before .before .args .out .now) 18
+two c =
+    let n = c .before .number .result in
+    upto-more (one (c .before .before .before .before .before)) (countText n) (c .put-number .kept .0) (c .put-number .ensures) (omega arith) (omega (arith, count-most n))
+
+abbrev three : (c : tie.After-put2) → Upto (c .before .before .before .before .before .before .before .before .before .before .before .before .before .before .args .out .now) 24
+three c = upto-more (two (c .before .before .before .before .before)) (bytes " line ") (c .put2 .kept .0) (c .put2 .ensures) (omega arith) (omega arith)
+
+abbrev four : (c : tie.After-put-number2) → Upto (c .before .before .before .before .before .before .before .before .before .before .before .before .before .before .before .before .before .before .args .out .now) 34
+four c =
+    let n = c .before .before .before .before .before .before .before .before .before .before .before .before .before .before .before .before .before .before .args .r .place in
+    upto-more (three (c .before .before .before .before)) (countText n) (c .put-number2 .kept .0) (c .put-number2 .ensures) (omega arith) (omega (arith, count-most n))
+
+abbrev five : (c : tie.After-put3) → Upto (c .before .before .before .before .before .before .before .before .before .before .before .before .before .before .before .before .before .before .before .before .before .before .before .args .out .now) 35
+five c = upto-more (four (c .before .before .before .before .before)) (bytes "\n") (c .put3 .kept .0) (c .put3 .ensures) (omega arith) (omega arith)
+
+slice-aggregate-put : tie.Need-slice-aggregate-put
+slice-aggregate-put c = search needs
+
+put-requires : tie.Need-put-requires
+put-requires c κs = search needs
+
+sub-put-number : tie.Need-sub-put-number
+sub-put-number c = search needs
+
+part-put-number-start : tie.Need-part-put-number-start
+part-put-number-start c = search needs
+
+part-put-number-end : tie.Need-part-put-number-end
+part-put-number-end c = search needs
+
+number-requires : tie.Need-number-requires
+number-requires c κs = search needs
+
+put-number-requires : tie.Need-put-number-requires
+put-number-requires c κs = search needs
+
+add-b : tie.Need-add-b
+add-b c = omega (arith, two (c .before .before) .few)
+
+sub-put : tie.Need-sub-put
+sub-put c = upto-in (two (c .before .before)) (omega arith)
+
+part-put-start : tie.Need-part-put-start
+part-put-start c = upto-in (two (c .before .before)) (omega arith)
+
+part-put-end : tie.Need-part-put-end
+part-put-end c = search needs
+
+slice-aggregate-put-2 : tie.Need-slice-aggregate-put-2
+slice-aggregate-put-2 c = search needs
+
+put-requires-2 : tie.Need-put-requires-2
+put-requires-2 c κs = upto-room 6 (two (c .before .before .before .before)) (omega arith)
+
+add-c : tie.Need-add-c
+add-c c = omega (arith, three (c .before .before) .few)
+
+sub-put-number-2 : tie.Need-sub-put-number-2
+sub-put-number-2 c = upto-in (three (c .before .before)) (omega arith)
+
+part-put-number-start-2 : tie.Need-part-put-number-start-2
+part-put-number-start-2 c = upto-in (three (c .before .before)) (omega arith)
+
+part-put-number-end-2 : tie.Need-part-put-number-end-2
+part-put-number-end-2 c = search needs
+
+put-number-requires-2 : tie.Need-put-number-requires-2
+put-number-requires-2 c κs = upto-room 10 (three (c .before .before .before)) (omega arith)
+
+add-d : tie.Need-add-d
+add-d c = omega (arith, four (c .before .before) .few)
+
+sub-put-2 : tie.Need-sub-put-2
+sub-put-2 c = upto-in (four (c .before .before)) (omega arith)
+
+part-put-start-2 : tie.Need-part-put-start-2
+part-put-start-2 c = upto-in (four (c .before .before)) (omega arith)
+
+part-put-end-2 : tie.Need-part-put-end-2
+part-put-end-2 c = search needs
+
+slice-aggregate-put-3 : tie.Need-slice-aggregate-put-3
+slice-aggregate-put-3 c = search needs
+
+put-requires-3 : tie.Need-put-requires-3
+put-requires-3 c κs = upto-room 1 (four (c .before .before .before .before)) (omega arith)
+
+add-result : tie.Need-add-result
+add-result c = omega (arith, five (c .before .before) .few)
+
+same-length : tie.Need-same-length
+same-length c = search needs
+
+returns : tie.Need-returns
+unfolding refusalText
+returns c =
+    let w = c .before .before .before .before .before .before .before .before .before .before .before .before .before .before .before .before in
+    upto-done (refusalText (w .before .before .before .before .before .before .before .before .before .args .r)) (five (c .before .before)) (rw (← w .before .number .ensures) (simp append-assoc))
+
+pub put-refusal-spec : {M : Type 1} → statement M
+put-refusal-spec =
+    tie.close
+    (tie.spec
+    slice-aggregate-put
+    put-requires
+    sub-put-number
+    part-put-number-start
+    part-put-number-end
+    number-requires
+    put-number-requires
+    add-b
+    sub-put
+    part-put-start
+    part-put-end
+    slice-aggregate-put-2
+    put-requires-2
+    add-c
+    sub-put-number-2
+    part-put-number-start-2
+    part-put-number-end-2
+    put-number-requires-2
+    add-d
+    sub-put-2
+    part-put-start-2
+    part-put-end-2
+    slice-aggregate-put-3
+    put-requires-3
+    add-result
+    same-length
+    returns)

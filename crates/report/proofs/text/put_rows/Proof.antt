@@ -1,0 +1,105 @@
+-- `report::text::put_rows` meets its contract. The invariant: the output, as it was after the header, is filled with the text of the first i records up to `at`. The measure is what is left of n. Assumes nothing.
+use Prim.Native.Nat.{_-_, _≤_}
+use mathlib.Core.Path.{_≡_, ap}
+use native.Mathlib.Omega.{arith}
+use native.Mathlib.Nat.{le-antisymm}
+use borrow.Author.Needs.{needs}
+use lib.ListN.{getD}
+use Rattle.basics.specs.Text.{bytes}
+use Rattle.basics.proofs.FillLaws.{Filled}
+use Rattle.page.specs.Report.{rowText, noRecord, recordsText}
+use Rattle.report.proofs.ReportLaws.{filled-text, filled-done, filled-again, filled-over, Upto, upto-of, upto-more, upto-in, upto-room, row-most, records-most, records-more}
+use Rattle.report.proofs.text.put_rows.Statement.{statement}
+use Rattle.report.proofs.text.put_rows.Tie as tie
+
+abbrev Inv-loop : tie.InvT-loop
+Inv-loop out₀ n a at₀ i₀ out at i = (i ≤ n) × (at₀ ≤ at) × Filled out₀ out (recordsText (a .rows) i) at
+
+abbrev μ-loop : tie.MeasureT-loop
+μ-loop out₀ n a at₀ i₀ out at i = n - i
+
+headed : (c : tie.After-put Inv-loop μ-loop) → Filled (c .before .before .before .before .args .out .now) (c .put .last .0) (bytes "task verdict bound_us\n") (c .put .result)
+headed c = filled-text (bytes "task verdict bound_us\n") (c .put .kept .0) (c .put .ensures)
+
+-- the output before a row, and after it
+abbrev so-far : (c : tie.In-loop Inv-loop μ-loop) → Upto (c .before .before .before .before .put .last .0) 890
+so-far c = upto-of (c .before .loop .inv .2) (omega (arith, records-most (c .before .before .before .before .before .before .before .before .args .t2 .rows) (c .before .loop .i)))
+
+abbrev next : (c : tie.After-put-row Inv-loop μ-loop) → Upto (c .before .before .before .before .before .before .before .put .last .0) 918
+next c =
+    let l = c .before .before .before in
+    let r = getD (l .before .before .before .before .before .before .before .before .args .t2 .rows) (l .before .loop .i) noRecord in
+    upto-more (so-far l) (rowText (r .task .0) (r .verdict)) (c .put-row .kept .0) (c .put-row .ensures) (omega (arith, c .before .before .before .before .before .before .before .put .kept .0)) (omega (arith, row-most (r .task .0) (r .verdict)))
+
+slice-aggregate-put : tie.Need-slice-aggregate-put Inv-loop μ-loop
+slice-aggregate-put c = search needs
+
+put-requires : tie.Need-put-requires Inv-loop μ-loop
+put-requires c κs = search needs
+
+loop-holds : tie.Need-loop-holds Inv-loop μ-loop
+unfolding recordsText
+loop-holds c = (omega arith, omega arith, filled-again (headed (c .before .before)))
+
+mul-x : tie.Need-mul-x Inv-loop μ-loop
+mul-x c = search needs
+
+element-copy-out-x : tie.Need-element-copy-out-x Inv-loop μ-loop
+element-copy-out-x c = search needs
+
+sub-put-row : tie.Need-sub-put-row Inv-loop μ-loop
+sub-put-row c = upto-in (so-far (c .before)) (omega arith)
+
+part-put-row-start : tie.Need-part-put-row-start Inv-loop μ-loop
+part-put-row-start c = upto-in (so-far (c .before)) (omega arith)
+
+part-put-row-end : tie.Need-part-put-row-end Inv-loop μ-loop
+part-put-row-end c = search needs
+
+put-row-requires : tie.Need-put-row-requires Inv-loop μ-loop
+put-row-requires c κs = upto-room 28 (so-far (c .before .before)) (omega arith)
+
+add-at : tie.Need-add-at Inv-loop μ-loop
+add-at c = omega (arith, next (c .before .before) .few)
+
+add-i : tie.Need-add-i Inv-loop μ-loop
+add-i c = search needs
+
+loop-less : tie.Need-loop-less Inv-loop μ-loop
+loop-less c = search needs
+
+loop-again : tie.Need-loop-again Inv-loop μ-loop
+loop-again c = (omega arith, omega arith, rw records-more (next (c .before .before) .filled))
+
+same-length : tie.Need-same-length Inv-loop μ-loop
+same-length c = search needs
+
+returns : tie.Need-returns Inv-loop μ-loop
+returns c =
+    let l = c .before .loop in
+    let h = c .before .before .before .before in
+    let s = h .before .before .before .before .args in
+    let e : l .i ≡ s .n = le-antisymm (l .inv .0) (c .loop-test .left) in
+    filled-done (recordsText (s .t2 .rows) (s .n)) (ap (recordsText (s .t2 .rows)) e) (filled-over (headed h) (l .inv .2) (l .inv .1))
+
+pub put-rows-spec : {M : Type 1} → statement M
+put-rows-spec =
+    tie.close
+    (tie.spec
+    Inv-loop
+    μ-loop
+    slice-aggregate-put
+    put-requires
+    loop-holds
+    mul-x
+    element-copy-out-x
+    sub-put-row
+    part-put-row-start
+    part-put-row-end
+    put-row-requires
+    add-at
+    add-i
+    loop-less
+    loop-again
+    same-length
+    returns)

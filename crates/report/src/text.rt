@@ -1,0 +1,107 @@
+// The text of a report.
+ghost use mathlib.Core.Path.{_≡_};
+ghost use mathlib.Core.List.{_++_};
+ghost use Prim.Native.Nat.{_≤_};
+ghost use lib.ListN.{length, drop};
+ghost use Rattle.field.specs.Text.{countText};
+ghost use Rattle.page.specs.Report.{refusalText, verdictText, rowText, recordsText, reportText};
+use analysis::Analysis;
+use analysis::Record;
+use table::Checked;
+use table::Level;
+use table::Refusal;
+use table::Table;
+use theory::Verdict;
+
+// No report is longer: a header of 22 bytes, and 32 rows of at most 28.
+pub(crate) const MOST: usize = 1024;
+
+// s at the start of out.
+fn put(out: &mut [u8], s: &[u8]) -> usize
+    requires { ⌜ length (now s) ≤ length (now out) ⌝ }
+    ensures { λ r. ⌜ (r ≡ length (now (s .entry))) × (now (out .exit) ≡ now (s .entry) ++ drop r (now (out .entry))) ⌝ }
+{
+    field::put_text(out, s).length()
+}
+
+// A number at the start of out.
+fn put_number(out: &mut [u8], n: u32) -> usize
+    requires { ⌜ 10 ≤ length (now out) ⌝ }
+    ensures { λ r. ⌜ (r ≡ length (countText n)) × (now (out .exit) ≡ countText n ++ drop r (now (out .entry))) ⌝ }
+{
+    field::put_count(out, n).length()
+}
+
+fn put_refusal(out: &mut [u8], r: Refusal) -> usize
+    requires { ⌜ 64 ≤ length (now out) ⌝ }
+    ensures { λ n. ⌜ (n ≡ length (refusalText r)) × (now (out .exit) ≡ refusalText r ++ drop n (now (out .entry))) ⌝ }
+{
+    let fault = r.fault;
+    let a = put(out, b"refused ");
+    let b = a + put_number(&mut out[a..], fault.number());
+    let c = b + put(&mut out[b..], b" line ");
+    let d = c + put_number(&mut out[c..], r.place);
+    d + put(&mut out[d..], b"\n")
+}
+
+fn put_verdict(out: &mut [u8], v: Verdict) -> usize
+    requires { ⌜ 17 ≤ length (now out) ⌝ }
+    ensures { λ r. ⌜ (r ≡ length (verdictText v)) × (now (out .exit) ≡ verdictText v ++ drop r (now (out .entry))) ⌝ }
+{
+    match v {
+        Verdict::Meets(t) => {
+            let a = put(out, b" meets ");
+            a + put_number(&mut out[a..], t)
+        }
+        Verdict::Misses => put(out, b" misses -"),
+    }
+}
+
+fn put_row(out: &mut [u8], number: u32, v: Verdict) -> usize
+    requires { ⌜ 28 ≤ length (now out) ⌝ }
+    ensures { λ r. ⌜ (r ≡ length (rowText number v)) × (now (out .exit) ≡ rowText number v ++ drop r (now (out .entry))) ⌝ }
+{
+    let a = put_number(out, number);
+    let b = a + put_verdict(&mut out[a..], v);
+    b + put(&mut out[b..], b"\n")
+}
+
+// The header, and a row for each of the first n records.
+fn put_rows(out: &mut [u8], a: Analysis, n: usize) -> usize
+    requires { ⌜ (1024 ≤ length (now out)) × (n ≤ 32) ⌝ }
+    ensures { λ r. ⌜ (r ≡ length (recordsText (a .rows) n)) × (now (out .exit) ≡ recordsText (a .rows) n ++ drop r (now (out .entry))) ⌝ }
+{
+    let mut at = put(out, b"task verdict bound_us\n");
+    let mut i: usize = 0;
+    while i < n {
+        let x = a.rows[i];
+        let v = x.verdict;
+        at += put_row(&mut out[at..], x.task.0, v);
+        i += 1;
+    }
+    at
+}
+
+// The report on a listing.
+pub(crate) fn report(listing: &[u8], out: &mut [u8]) -> usize
+    requires { ⌜ 1024 ≤ length (now out) ⌝ }
+    ensures { λ r. ⌜ (r ≡ length (reportText (now (listing .entry)))) × (now (out .exit) ≡ reportText (now (listing .entry)) ++ drop r (now (out .entry))) ⌝ }
+{
+    let r = listing::read(listing);
+    let read = r.answer;
+    if let Checked::Refused(f) = read {
+        return put_refusal(out, f);
+    }
+    let t = r.table;
+    let n = t.n;
+    let none = Record {
+        task: Level(0),
+        verdict: Verdict::Misses,
+    };
+    let a = analysis::analyse_all(t, [none; Table::MAX_TASKS]);
+    let judged = a.answer;
+    if let Checked::Refused(f) = judged {
+        return put_refusal(out, f);
+    }
+    put_rows(out, a, n)
+}
