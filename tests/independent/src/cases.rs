@@ -27,7 +27,7 @@ fn largest() -> String {
 
 /// One task above that never lets go makes the demand of the one below climb by one a round.
 fn slow() -> String {
-    "cpus 1\ntask 3 2.999 3\ntask 10000 0.001 10000\n".into()
+    "cpus 1\ntask 10000 10000 10000\ntask 10000 0.001 10000\n".into()
 }
 
 pub fn listings() -> Vec<Vec<u8>> {
@@ -141,4 +141,28 @@ pub fn listings() -> Vec<Vec<u8>> {
         all.push([b"cpus 2\ntas".as_slice(), &[byte], b" 10 2.5 1\n"].concat());
     }
     all
+}
+
+/// A full table: 32 tasks, 16 locks, half of the pairs in use, periods from 20 ms to 10 s.
+fn full() -> String {
+    let mut text = String::from("cpus 4\n");
+    for i in 0..32u64 {
+        let period = 20_000 + 321_900 * i;
+        text.push_str(&format!("task {} {} {}\n", ms(period), ms(period / 14), ms(period)));
+        for k in 0..16u64 {
+            if (i + k) % 2 == 0 {
+                text.push_str(&format!("use {} 3 {} {}\n", k + 1, ms(period / 1_000), ms(period / 500)));
+            }
+        }
+    }
+    text
+}
+
+fn ms(us: u64) -> String {
+    format!("{}.{:03}", us / 1000, us % 1000)
+}
+
+/// What the benchmark runs both programs on.
+pub fn benchmark() -> [(&'static str, String); 3] {
+    [("full", full()), ("largest", largest()), ("slow", slow())]
 }

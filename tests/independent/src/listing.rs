@@ -115,3 +115,22 @@ pub fn time(text: &[u8]) -> Result<u64, u32> {
         }
     }
 }
+
+/// The text of a checked table.
+pub fn write(table: &Table) -> String {
+    let mut text = format!("cpus {}\n", table.m);
+    for task in table.used() {
+        text.push_str(&format!("task {} {} {}\n", milliseconds(task.t), milliseconds(task.c), milliseconds(task.d)));
+        for (k, lock) in task.locks.iter().enumerate() {
+            if lock.n > 0 {
+                text.push_str(&format!("use {} {} {} {}\n", k + 1, lock.n, milliseconds(lock.c), milliseconds(lock.ct)));
+            }
+        }
+    }
+    text
+}
+
+fn milliseconds(us: u64) -> String {
+    let text = format!("{}.{:03}", us / 1000, us % 1000);
+    text.trim_end_matches('0').trim_end_matches('.').to_string()
+}

@@ -1,13 +1,18 @@
 //! A second analyser, written from the paper alone, to hold the proved one to. It shares no line with it.
 //!
 //!     independent report < LISTING          what `report` is to print
-//!     independent compare REPORT            run REPORT on many listings and compare; exit 1 on a difference
+//!     independent rounds < LISTING          how many demands the iteration works out, all tasks together
+//!     independent times REPORT LISTING      the least time of REPORT and of this program on it, in microseconds
+//!     independent bench FOLDER              write the benchmark's listings there
+//!     independent compare REPORT PROBE      run both on many listings and tables and compare; exit 1 on a difference
 
 mod analysis;
 mod cases;
 mod compare;
 mod generate;
 mod listing;
+mod measure;
+mod probe;
 mod random;
 mod report;
 mod table;
@@ -25,15 +30,32 @@ fn main() -> ExitCode {
             std::io::stdout().write_all(report::quick(&bytes).as_bytes()).expect("standard output");
             ExitCode::SUCCESS
         }
-        ["compare", program] => {
-            if compare::reports(program) {
+        ["rounds"] => {
+            let mut bytes = Vec::new();
+            std::io::stdin().read_to_end(&mut bytes).expect("standard input");
+            let table = listing::read(&bytes).expect("an accepted listing");
+            println!("{}", (0..table.n as usize).map(|i| analysis::iterate(&table, i).1).sum::<u64>());
+            ExitCode::SUCCESS
+        }
+        ["times", report, path] => {
+            measure::times(report, path);
+            ExitCode::SUCCESS
+        }
+        ["bench", folder] => {
+            for (name, text) in cases::benchmark() {
+                std::fs::write(format!("{folder}/{name}"), text).expect("a folder to write to");
+            }
+            ExitCode::SUCCESS
+        }
+        ["compare", report, probe] => {
+            if compare::reports(report) && probe::compare(probe) {
                 ExitCode::SUCCESS
             } else {
                 ExitCode::FAILURE
             }
         }
         _ => {
-            eprintln!("usage: independent report | independent compare REPORT");
+            eprintln!("usage: independent report | rounds | times REPORT LISTING | bench FOLDER | compare REPORT PROBE");
             ExitCode::FAILURE
         }
     }

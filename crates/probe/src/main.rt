@@ -1,0 +1,226 @@
+// A test program: hands a raw table of any numbers to one entry point of the library, and prints the answer and all that was lent.
+// docs/PROBE.md describes its input. Its contracts say nothing: it is for comparing, and what it calls is proved elsewhere.
+ghost use Prim.Native.Nat.{_≤_};
+ghost use lib.ListN.{length};
+use analysis::Answer;
+use analysis::Record;
+use libc::STDIN_FILENO;
+use libc::STDOUT_FILENO;
+use listing::Written;
+use table::Checked;
+use table::Level;
+use table::Pair;
+use table::Refusal;
+use table::Table;
+use table::Task;
+use theory::Verdict;
+
+// The words of a task, and the words and bytes of a request: an entry point, its argument, m, n in two words, and 32 tasks.
+const TASK: usize = 3 + 3 * Table::MAX_RESOURCES;
+
+const WORDS: usize = 5 + Table::MAX_TASKS * TASK;
+
+const BYTES: usize = 4 * WORDS;
+
+// The records of the row that is lent, or of which the front is lent.
+const ROWS: usize = 40;
+
+// The bytes of the output that is lent, or of which the front is lent.
+const OUTPUT: usize = 20_000;
+
+struct Lent {
+    answer: Checked,
+    rows: [Record; ROWS],
+}
+
+// The word at a place, its first byte the highest; 0 past the end.
+fn word(s: &[u8], at: usize) -> u32 {
+    if WORDS <= at {
+        return 0;
+    }
+    let i = at * 4;
+    if s.len() < i + 4 {
+        return 0;
+    }
+    s[i] as u32 * 16_777_216 + s[i + 1] as u32 * 65_536 + s[i + 2] as u32 * 256 + s[i + 3] as u32
+}
+
+// The task whose words begin at a place.
+fn task_at(s: &[u8], at: usize) -> Task
+    requires { ⌜ at ≤ 4000 ⌝ }
+{
+    let mut pairs = [Pair {
+        requests: 0,
+        longest: 0,
+        total: 0,
+    }; Table::MAX_RESOURCES];
+    let mut k: usize = 0;
+    while k < Table::MAX_RESOURCES {
+        let p = at + 3 + 3 * k;
+        pairs[k] = Pair {
+            requests: word(s, p),
+            longest: word(s, p + 1),
+            total: word(s, p + 2),
+        };
+        k += 1;
+    }
+    Task {
+        period: word(s, at),
+        run: word(s, at + 1),
+        deadline: word(s, at + 2),
+        pairs,
+    }
+}
+
+// The table that begins at the third word.
+fn table_of(s: &[u8]) -> Table {
+    let mut t = Table::empty();
+    t.cpus = word(s, 2);
+    t.n = word(s, 3) as usize * 4_294_967_296 + word(s, 4) as usize;
+    let mut i: usize = 0;
+    while i < Table::MAX_TASKS {
+        t.tasks[i] = task_at(s, 5 + i * TASK);
+        i += 1;
+    }
+    t
+}
+
+fn say(s: &[u8]) {
+    io::write_all(STDOUT_FILENO, s);
+}
+
+fn say_number(n: u32) {
+    io::print_decimal(STDOUT_FILENO, n as u64);
+}
+
+fn say_refusal(r: Refusal) {
+    let fault = r.fault;
+    say(b"refused ");
+    say_number(fault.number());
+    say(b" place ");
+    say_number(r.place);
+    say(b"\n");
+}
+
+fn say_checked(c: Checked) {
+    match c {
+        Checked::Fine => say(b"fine\n"),
+        Checked::Refused(r) => say_refusal(r),
+    }
+}
+
+fn say_verdict(v: Verdict) {
+    match v {
+        Verdict::Meets(t) => {
+            say(b"meets ");
+            say_number(t);
+            say(b"\n");
+        }
+        Verdict::Misses => say(b"misses\n"),
+    }
+}
+
+// What a record of the row holds before it is lent.
+fn mark(i: usize) -> Record
+    requires { ⌜ i ≤ 40 ⌝ }
+{
+    Record {
+        task: Level(1_000 + i as u32),
+        verdict: Verdict::Meets(i as u32),
+    }
+}
+
+fn marks() -> [Record; ROWS] {
+    let mut rows = [mark(0); ROWS];
+    let mut i: usize = 0;
+    while i < ROWS {
+        rows[i] = mark(i);
+        i += 1;
+    }
+    rows
+}
+
+// The front of a row, lent to the analysis.
+fn lend(t: Table, rows: [Record; ROWS], room: usize) -> Lent
+    requires { ⌜ room ≤ 40 ⌝ }
+{
+    let mut row = rows;
+    let answer = analysis::analyse(t, &mut row[..room]);
+    Lent { answer, rows: row }
+}
+
+fn say_rows(l: Lent) {
+    let mut i: usize = 0;
+    while i < ROWS {
+        let x = l.rows[i];
+        let v = x.verdict;
+        say_number(x.task.0);
+        say(b" ");
+        say_verdict(v);
+        i += 1;
+    }
+}
+
+// Entry point 3: `analyse`, with a row of so many records.
+fn analyse(t: Table, room: u32) {
+    if 40 < room {
+        say(b"bad row\n");
+        return;
+    }
+    let l = lend(t, marks(), room as usize);
+    let answer = l.answer;
+    say_checked(answer);
+    say_rows(l);
+}
+
+// Entry point 2: `bound`, of a task.
+fn bound(t: Table, task: u32) {
+    let answer = analysis::bound(t, Level(task));
+    match answer {
+        Answer::Known(v) => say_verdict(v),
+        Answer::Unknown(r) => say_refusal(r),
+    }
+}
+
+// The front of an output, lent to the writer; then the answer, and all of the output.
+fn write_into(t: Table, out: &mut [u8], room: usize)
+    requires { ⌜ room ≤ length (now out) ⌝ }
+{
+    match listing::write(t, &mut out[..room]) {
+        Written::Wrote(k) => {
+            say(b"wrote ");
+            io::print_decimal(STDOUT_FILENO, k as u64);
+            say(b"\n");
+        }
+        Written::NotWritten(r) => say_refusal(r),
+    }
+    say(out);
+}
+
+// Entry point 4: `write`, with an output of so many bytes.
+fn write(t: Table, room: u32) {
+    if 20_000 < room {
+        say(b"bad output\n");
+        return;
+    }
+    let mut out = [b'#'; OUTPUT];
+    write_into(t, &mut out, room as usize);
+}
+
+fn main() {
+    let mut space = [0u8; BYTES];
+    let n = io::read_full(STDIN_FILENO, &mut space);
+    if n < BYTES {
+        say(b"bad request\n");
+        return;
+    }
+    let t = table_of(&space);
+    let argument = word(&space, 1);
+    match word(&space, 0) {
+        1 => say_checked(table::check(t)),
+        2 => bound(t, argument),
+        3 => analyse(t, argument),
+        4 => write(t, argument),
+        _ => say(b"bad request\n"),
+    }
+}

@@ -1,0 +1,122 @@
+//! Tables handed over directly, by way of the program `probe`: the check, one task's bound, rows and outputs of every length.
+//! docs/PROBE.md describes its input.
+
+use crate::analysis::{self, Verdict};
+use crate::compare::{run, Tally};
+use crate::random::Random;
+use crate::table::{Refusal, Table};
+use crate::{generate, listing};
+
+const TABLES: u64 = 600;
+const ROWS: usize = 40;
+const OUTPUT: usize = 20_000;
+
+fn request(entry: u32, argument: u32, table: &Table) -> Vec<u8> {
+    let mut words = vec![entry, argument, table.m as u32, (table.n >> 32) as u32, table.n as u32];
+    for task in &table.tasks {
+        words.extend([task.t as u32, task.c as u32, task.d as u32]);
+        for lock in &task.locks {
+            words.extend([lock.n as u32, lock.c as u32, lock.ct as u32]);
+        }
+    }
+    words.iter().flat_map(|w| w.to_be_bytes()).collect()
+}
+
+fn refused((number, place): Refusal) -> String {
+    format!("refused {number} place {place}\n")
+}
+
+fn verdict(v: Verdict) -> String {
+    match v {
+        Verdict::Meets(t) => format!("meets {t}\n"),
+        Verdict::Misses => "misses\n".into(),
+    }
+}
+
+fn checked(table: &Table) -> String {
+    table.check().map_or_else(refused, |()| "fine\n".into())
+}
+
+fn bound(table: &Table, task: u32) -> String {
+    if let Err(r) = table.check() {
+        return refused(r);
+    }
+    if task == 0 || task as u64 > table.n {
+        return refused((10, 0));
+    }
+    verdict(analysis::verdict(table, task as usize - 1))
+}
+
+fn row(table: &Table, room: usize) -> String {
+    let mut lines: Vec<String> = (0..ROWS).map(|i| format!("{} meets {i}\n", 1000 + i)).collect();
+    let answer = match table.check() {
+        Err(r) => refused(r),
+        Ok(()) if (room as u64) < table.n => refused((11, 0)),
+        Ok(()) => {
+            for (i, line) in lines.iter_mut().enumerate().take(table.n as usize) {
+                *line = format!("{} {}", i + 1, verdict(analysis::verdict(table, i)));
+            }
+            "fine\n".into()
+        }
+    };
+    answer + &lines.concat()
+}
+
+fn output(table: &Table, room: usize) -> String {
+    let mut bytes = vec![b'#'; OUTPUT];
+    let answer = match table.check() {
+        Err(r) => refused(r),
+        Ok(()) => {
+            let text = listing::write(table);
+            if room < text.len() {
+                refused((11, 0))
+            } else {
+                bytes[..text.len()].copy_from_slice(text.as_bytes());
+                format!("wrote {}\n", text.len())
+            }
+        }
+    };
+    answer + &String::from_utf8(bytes).unwrap()
+}
+
+/// What the answer was, without the numbers that differ from table to table.
+fn outcome(entry: &str, answer: &str) -> String {
+    let first = answer.lines().next().unwrap_or("");
+    let mut words = first.split(' ');
+    match words.next() {
+        Some("refused") => format!("{entry}: refused {:>2}", words.next().unwrap_or("")),
+        Some(word) => format!("{entry}: {word}"),
+        None => entry.into(),
+    }
+}
+
+pub fn compare(program: &str) -> bool {
+    let mut tally = Tally::new();
+    let mut r = Random::new(2);
+    for _ in 0..TABLES {
+        let table = generate::raw_table(&mut r);
+        let n = table.n.min(32) as u32;
+        let task = *r.pick(&[0, 1, n / 2 + 1, n, n + 1, u32::MAX]);
+        let room = *r.pick(&[0, 1, n.max(1) - 1, n, n, n + 1, 32, 40]);
+        let length = if table.check().is_ok() { listing::write(&table).len() as u32 } else { 100 };
+        let space = *r.pick(&[0, length - 1, length, length, length + 1, 20_000]);
+        let asked = [
+            ("check", 1, 0, checked(&table)),
+            ("bound", 2, task, bound(&table, task)),
+            ("analyse", 3, room, row(&table, room as usize)),
+            ("write", 4, space, output(&table, space as usize)),
+        ];
+        for (name, entry, argument, expected) in asked {
+            let found = run(program, &request(entry, argument, &table));
+            if found != expected.as_bytes() {
+                println!("{name} with {argument} differs on {table:?}\nhere:\n{expected}\n{program}:\n{}", String::from_utf8_lossy(&found));
+                return false;
+            }
+            tally.count(outcome(name, &expected));
+        }
+    }
+    tally.print("tables");
+    let mut wanted: Vec<String> = [4, 5, 7, 8, 9].iter().map(|k| format!("check: refused {k:>2}")).collect();
+    wanted.extend(["check: fine", "bound: meets", "bound: misses", "bound: refused 10", "analyse: fine", "analyse: refused 11", "write: wrote", "write: refused 11"].map(String::from));
+    tally.covers(&wanted)
+}
