@@ -1,0 +1,72 @@
+-- The paper's points marked P hold: a listing's report by reading it and computing a few iterates of each task, the rest by computing.
+-- Assumes nothing.
+use Prim.Native.Nat.{ℕ, suc, _<_}
+use Prim.Native.String.{String}
+use mathlib.Core.Path.{_≡_, refl, _∙_}
+use mathlib.Core.List.{List, _++_}
+use lib.Dec.{lit<}
+use Rattle.basics.specs.Over.{sumTo, maxTo, firstTo}
+use Rattle.basics.specs.Text.{bytes}
+use Rattle.table.specs.declared.Table.{Table}
+use Rattle.table.specs.declared.Checked.the-variants.{Fine}
+use Rattle.table.specs.Empty.{emptyTask, emptyTable}
+use Rattle.table.specs.Faults.{firstFault}
+use Rattle.table.specs.Rules.{timesInRange, timesInOrder, timesFault, isUnused, usedInRange, pairInRange, totalsFit, pairFault, pairsFault, taskFault, tasksFault, tableFault}
+use Rattle.field.specs.Number.{fraction, timeField, countField}
+use Rattle.field.specs.Text.{width, countText}
+use Rattle.listing.specs.Lines.{fieldCount}
+use Rattle.listing.specs.Read.{cpusLine, taskLine, useLine, lineSays, pastAfter, newTask, tableAfter, readEnd, readLines, readListing}
+use Rattle.theory.specs.declared.Verdict.{Verdict}
+use Rattle.theory.specs.declared.Verdict.the-variants.{Meets, Misses}
+use Rattle.theory.specs.Work.{workload, jobs, ceilDiv}
+use Rattle.theory.specs.View.{level, ceiling}
+use Rattle.theory.specs.Demand.{sharedCT, otherCT, allCT, highCT, DB, S, O, F, L, demandWith}
+use Rattle.theory.proofs.VerdictLaws.{climb}
+use Rattle.analysis.specs.Tables.{verdictIn}
+use Rattle.analysis.proofs.ByIterates.{iterate-meets, iterate-misses}
+use Rattle.page.specs.Report.{verdictText, rowText, rowsText, reportText}
+use Rattle.page.proofs.Reports.{report-accepted}
+use Rattle.promises.specs.Points.{Holds, All, none, _and_, points}
+
+-- the table that a listing is read as
+abbrev tableIn : String → Table
+tableIn s = readListing (bytes s) .table
+
+-- the report on a listing of three tasks, by their verdicts
+three : (s : String) (a b c : Verdict) → readListing (bytes s) .answer ≡ Fine → tableIn s .n ≡ 3
+    → verdictIn (tableIn s) (level 0) ≡ a → verdictIn (tableIn s) (level 1) ≡ b → verdictIn (tableIn s) (level 2) ≡ c
+    → reportText (bytes s) ≡ ((bytes "task verdict bound_us\n" ++ rowText 1 a) ++ rowText 2 b) ++ rowText 3 c
+unfolding rowsText
+three s a b c e n p q r =
+    report-accepted (bytes s) (tableIn s) (λ j. record { answer = e j; table = tableIn s })
+    ∙ rw (n, p, q, r)
+
+pub points-hold : All points
+unfolding Holds points sumTo maxTo firstTo emptyTask emptyTable firstFault timesInRange timesInOrder timesFault isUnused usedInRange pairInRange totalsFit pairFault pairsFault taskFault tasksFault tableFault fraction timeField countField width countText fieldCount cpusLine taskLine useLine lineSays pastAfter newTask tableAfter readEnd readLines readListing workload jobs ceilDiv ceiling sharedCT otherCT allCT highCT DB S O F L demandWith climb verdictText rowText
+points-hold =
+    (let s : String = "cpus 2\ntask 10 2.5 10\nuse 1 1 0.5 0.5\ntask 20 4 15\ntask 30 6 30\nuse 1 2 0.75 1.5\n" in
+    three s (Meets 3_250) (Meets 4_000) (Meets 14_500) refl refl
+    (iterate-meets (tableIn s) 0 1 3_250 refl (lit< tt) refl tt tt tt)
+    (iterate-meets (tableIn s) 1 0 4_000 refl (lit< tt) refl tt tt tt)
+    (iterate-meets (tableIn s) 2 5 14_500 refl (lit< tt) refl tt tt tt))
+    and (let s : String = "cpus 2\ntask 10 2.5 10\nuse 1 1 0.5 0.5\ntask 20 4 15\ntask 30 6 14.5\nuse 1 2 0.75 1.5\n" in
+    three s (Meets 3_250) (Meets 4_000) (Meets 14_500) refl refl
+    (iterate-meets (tableIn s) 0 1 3_250 refl (lit< tt) refl tt tt tt)
+    (iterate-meets (tableIn s) 1 0 4_000 refl (lit< tt) refl tt tt tt)
+    (iterate-meets (tableIn s) 2 5 14_500 refl (lit< tt) refl tt tt tt))
+    and (let s : String = "cpus 2\ntask 10 2.5 10\nuse 1 1 0.5 0.5\ntask 20 4 15\ntask 30 6 14.499\nuse 1 2 0.75 1.5\n" in
+    three s (Meets 3_250) (Meets 4_000) Misses refl refl
+    (iterate-meets (tableIn s) 0 1 3_250 refl (lit< tt) refl tt tt tt)
+    (iterate-meets (tableIn s) 1 0 4_000 refl (lit< tt) refl tt tt tt)
+    (iterate-misses (tableIn s) 2 5 14_500 refl (lit< tt) refl tt))
+    and refl
+    and refl
+    and refl
+    and refl
+    and refl
+    and refl
+    and refl
+    and refl
+    and refl
+    and refl
+    and none

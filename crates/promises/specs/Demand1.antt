@@ -1,0 +1,89 @@
+-- Demand 1: every input gets an answer that the contract determines; a refusal is given exactly when its rule is the first that fails,
+-- and then everything lent holds what it held. (That each function answers at all, and does nothing undefined, is what the checker proves of every function.)
+use Prim.Native.Nat.{ℕ, _<_}
+use mathlib.Core.Path.{_≡_}
+use mathlib.Core.Bool.{Bool, false}
+use mathlib.Core.List.{List}
+use mathlib.Core.Logic.{_⊎_}
+use contract.Lifetimes.{Lfts}
+use lib.ListN.{length}
+use Rattle.basics.specs.Text.{putInto}
+use Rattle.basics.specs.Determined.{Determined, DeterminedWith}
+use Rattle.table.specs.declared.Level.{Level}
+use Rattle.table.specs.declared.Refusal.{Refusal}
+use Rattle.table.specs.declared.Fault.{Fault}
+use Rattle.table.specs.declared.Fault.the-variants.{UnknownTask, TooShort}
+use Rattle.table.specs.declared.Table.{Table}
+use Rattle.table.specs.declared.Checked.{Checked}
+use Rattle.table.specs.declared.Checked.the-variants.{Fine, Refused}
+use Rattle.table.specs.Empty.{emptyTable}
+use Rattle.table.specs.Faults.{_then_, unless, firstFault}
+use Rattle.table.specs.Rules.{tableFault}
+use Rattle.table.specs.Accepted.{Accepted}
+use Rattle.field.specs.declared.Put.the-variants.{Short}
+use Rattle.field.specs.Text.{putAnswer}
+use Rattle.listing.specs.Read.{readListing}
+use Rattle.listing.specs.Write.{textOf, writeFault, written}
+use Rattle.analysis.specs.declared.Record.{Record}
+use Rattle.analysis.specs.Answers.{boundFault, analysisFault, analysed, Filled}
+use Rattle.table.proofs.Fault.number.Reads as number
+use Rattle.table.proofs.Table.empty.Reads as empty
+use Rattle.table.proofs.check.Reads as check
+use Rattle.field.proofs.count.Reads as count
+use Rattle.field.proofs.time.Reads as time
+use Rattle.field.proofs.writing.put_count.Reads as put-count
+use Rattle.field.proofs.writing.put_time.Reads as put-time
+use Rattle.listing.proofs.read.Reads as read
+use Rattle.listing.proofs.write.Reads as write
+use Rattle.analysis.proofs.analyse_all.Reads as analyse-all
+use Rattle.analysis.proofs.bound.Reads as bound
+use Rattle.promises.specs.Words.{_exactly-if_}
+
+-- ---- two answers to one input are equal, and so is what then lies in everything lent
+
+pub record Determines : Type 0 where
+  pub number : Determined (number.Learnt tt)
+  pub empty : Determined (empty.Learnt tt)
+  pub check : Determined (check.Learnt tt)
+  pub time : (κs : Lfts 1) → Determined (time.Learnt κs)
+  pub count : (κs : Lfts 1) → Determined (count.Learnt κs)
+  pub put-time : (κs : Lfts 1) → DeterminedWith (λ x. x .0 .now) (put-time.Learnt κs)
+  pub put-count : (κs : Lfts 1) → DeterminedWith (λ x. x .0 .now) (put-count.Learnt κs)
+  pub read : (κs : Lfts 1) → Determined (read.Learnt κs)
+  pub write : (κs : Lfts 1) → DeterminedWith (λ x. x .1 .0 .now) (write.Learnt κs)
+  pub bound : Determined (bound.Learnt tt)
+  pub analyse-all : Determined (analyse-all.Learnt tt)
+  pub analyse : (t : Table) (row : List Record) (r s : Checked) (x y : List Record)
+      → Filled t row r x → Filled t row s y → (r ≡ s) × (x ≡ y)
+
+-- ---- a refusal leaves everything lent as it was
+
+pub record Keeps : Type 0 where
+  pub row : (t : Table) (row : List Record) (r : Refusal) → analysisFault t (length row) ≡ Refused r → analysed t row ≡ row
+  pub output : (t : Table) (out : List ℕ) (r : Refusal) → writeFault t (length out) ≡ Refused r → written t out ≡ out
+  pub field : (text out : List ℕ) → putAnswer text out ≡ Short → putInto text out ≡ out
+  -- "a refused reading gives no table"
+  pub table : (s : List ℕ) (r : Refusal) → readListing s .answer ≡ Refused r → readListing s .table ≡ emptyTable
+
+-- ---- a refusal is given exactly when its rule is the first that fails
+
+abbrev pub at : Fault → ℕ → Checked
+at fault place = Refused (record { fault = fault; place = place })
+
+pub record FirstDecides : Type 0 where
+  -- one rule, two rules after each other, and the rules of n things
+  pub rule : (test : Bool) (fault : Fault) (place : ℕ) → (unless test fault place ≡ at fault place) exactly-if (test ≡ false)
+  pub two : (a b : Checked) (r : Refusal) → ((a then b) ≡ Refused r) exactly-if ((a ≡ Refused r) ⊎ ((a ≡ Fine) × (b ≡ Refused r)))
+  pub many : (n : ℕ) (f : ℕ → Checked) (r : Refusal)
+      → (firstFault n f ≡ Refused r) exactly-if ((k : ℕ) × (k < n) × (f k ≡ Refused r) × ((j : ℕ) → j < k → f j ≡ Fine))
+  -- a table is accepted exactly if it holds the paper's bounds
+  pub fine : (t : Table) → (tableFault t ≡ Fine) exactly-if Accepted t
+  -- after the table's own: 10, and 11 for a row and for an output
+  pub ten : (t : Table) (i : Level) → tableFault t ≡ Fine → (boundFault t i ≡ at UnknownTask 0) exactly-if ((i .0 ≡ 0) ⊎ (t .n < i .0))
+  pub eleven-row : (t : Table) (room : ℕ) → tableFault t ≡ Fine → (analysisFault t room ≡ at TooShort 0) exactly-if (room < t .n)
+  pub eleven-output : (t : Table) (room : ℕ) → tableFault t ≡ Fine → (writeFault t room ≡ at TooShort 0) exactly-if (room < length (textOf t))
+
+pub record Demand1 : Type 0 where
+  pub determines : Determines
+  pub keeps : Keeps
+  pub first-decides : FirstDecides

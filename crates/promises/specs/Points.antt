@@ -1,0 +1,58 @@
+-- The paper's points marked P, every one: one list, one statement over it.
+use Prim.Native.Nat.{ℕ}
+use Prim.Native.String.{String}
+use mathlib.Core.Path.{_≡_}
+use mathlib.Core.List.{List, [], _∷_}
+use lib.ListN.{length}
+use Rattle.basics.specs.Text.{bytes}
+use Rattle.field.specs.declared.Field.the-variants.{Value}
+use Rattle.field.specs.Number.{timeField}
+use Rattle.theory.specs.Work.{workload}
+use Rattle.page.specs.Report.{reportText}
+
+pub data Point : Type 0 where
+  -- a listing, and the report on it
+  reports : String → String → Point
+  -- T, D, t, x, and the workload
+  loads : ℕ → ℕ → ℕ → ℕ → ℕ → Point
+  -- a field, and the microseconds that it reads as
+  reads : String → ℕ → Point
+
+unfoldable pub Holds : Point → Type 0
+Holds (reports listing text) = reportText (bytes listing) ≡ bytes text
+Holds (loads T D t x w) = workload T D t x ≡ w
+Holds (reads text us) = timeField (bytes text) ≡ Value us (length (bytes text))
+
+infixr 10 _and_
+pub data All : List Point → Type 0 where
+  none : All []
+  _and_ : {p : Point} {ps : List Point} → Holds p → All ps → All (p ∷ ps)
+
+unfoldable pub points : List Point
+points =
+    -- case A's three bounds
+    reports
+    "cpus 2\ntask 10 2.5 10\nuse 1 1 0.5 0.5\ntask 20 4 15\ntask 30 6 30\nuse 1 2 0.75 1.5\n"
+    "task verdict bound_us\n1 meets 3250\n2 meets 4000\n3 meets 14500\n"
+    -- with task 3's D 14.5 it meets at 14,500
+    ∷ reports
+    "cpus 2\ntask 10 2.5 10\nuse 1 1 0.5 0.5\ntask 20 4 15\ntask 30 6 14.5\nuse 1 2 0.75 1.5\n"
+    "task verdict bound_us\n1 meets 3250\n2 meets 4000\n3 meets 14500\n"
+    -- with 14.499 it misses
+    ∷ reports
+    "cpus 2\ntask 10 2.5 10\nuse 1 1 0.5 0.5\ntask 20 4 15\ntask 30 6 14.499\nuse 1 2 0.75 1.5\n"
+    "task verdict bound_us\n1 meets 3250\n2 meets 4000\n3 misses -\n"
+    -- T 10, D 8, x 3: workload 0 at t 0, 3 at 4, 3 at 5, 5 at 7, 6 at 8
+    ∷ loads 10 8 0 3 0
+    ∷ loads 10 8 4 3 3
+    ∷ loads 10 8 5 3 3
+    ∷ loads 10 8 7 3 5
+    ∷ loads 10 8 8 3 6
+    -- T and D 10, t 2: x 8 gives 4, x 9 gives 3
+    ∷ loads 10 10 2 8 4
+    ∷ loads 10 10 2 9 3
+    -- the fields 2.5, 2.05 and 2.500
+    ∷ reads "2.5" 2_500
+    ∷ reads "2.05" 2_050
+    ∷ reads "2.500" 2_500
+    ∷ []

@@ -1,0 +1,1 @@
+// No code: the promises stand in specs/, and their proofs in proofs/.
