@@ -1,7 +1,6 @@
 -- The text that the report program prints for a listing: document 01, "The report program".
 use Prim.Native.Nat.{ℕ, zero, suc}
 use mathlib.Core.List.{List, [], _∷_, _++_}
-use lib.ListN.{getD}
 use Rattle.basics.specs.Text.{bytes}
 use Rattle.table.specs.declared.Refusal.{Refusal}
 use Rattle.table.specs.declared.Table.{Table}
@@ -14,7 +13,6 @@ use Rattle.theory.specs.declared.Verdict.{Verdict}
 use Rattle.theory.specs.declared.Verdict.the-variants.{Meets, Misses}
 use Rattle.theory.specs.View.{level}
 use Rattle.listing.specs.Read.{readListing}
-use Rattle.analysis.specs.declared.Record.{Record}
 use Rattle.analysis.specs.Tables.{verdictIn}
 use Rattle.analysis.specs.Answers.{analysisFault}
 
@@ -46,13 +44,3 @@ reportText s =
     let r = readListing s in
     let t = r .table in
     orRefusal (r .answer then analysisFault t maxTasks) (rowsText t (t .n))
-
--- ---- the same from a row of records, as the program has it
-
--- what the checker reads past a row's end
-abbrev pub noRecord : Record
-noRecord = record { task = record { 0 = 0 }; verdict = Meets 0 }
-
-unfoldable pub recordsText : List Record → ℕ → List ℕ
-recordsText row zero = bytes "task verdict bound_us\n"
-recordsText row (suc n) = recordsText row n ++ rowText (getD row n noRecord .task .0) (getD row n noRecord .verdict)

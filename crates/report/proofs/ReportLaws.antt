@@ -39,7 +39,8 @@ use Rattle.listing.specs.declared.Reading.{Reading}
 use Rattle.listing.specs.Read.{readListing}
 use Rattle.analysis.specs.declared.Record.{Record}
 use Rattle.analysis.specs.Answers.{analysisFault, written, recordOf, records, analysed}
-use Rattle.page.specs.Report.{refusalText, verdictText, rowText, rowsText, reportText, noRecord, recordsText}
+use Rattle.page.specs.Report.{refusalText, verdictText, rowText, rowsText, reportText}
+use Rattle.report.specs.Rows.{noRecord, recordsText}
 
 -- ---- writers
 
