@@ -1,6 +1,5 @@
 -- Laws and theorems of the analysis' code.
 --   ByIterates    a verdict by computing a few iterates
---   PointsHold    the paper's points
 --   CeilingLaws   the ceilings that the pass keeps
 --   PassShares    the shares that the pass makes; Reduce: their demand is the table's
 --   QuotLaws      a product for the quotient
@@ -9,7 +8,6 @@
 --   RowLaws       the row of records, from the front; Lies: an array as what a slice borrows
 --   Determined    two answers are equal
 pub mod ByIterates
-pub mod PointsHold
 pub mod CeilingLaws
 pub mod PassShares
 pub mod Reduce

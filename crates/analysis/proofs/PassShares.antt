@@ -138,7 +138,7 @@ PeaksTo t i j m =
     (k : ℕ) → k < maxResources → peakAt m k ≡ maxTo j (λ l. only (isAbove (level i) (level l)) (viewOf t .c (level l) (resource k)))
 
 pub peaks-none : (t : Table) (i : ℕ) → PeaksTo t i (i + 1) (record { longest = replicate maxResources 0 })
-peaks-none t i k q = getD-replicate maxResources k 0 0 q ∙ largest-none (viewOf t) i (λ l. viewOf t .c l (resource k))
+peaks-none t i k q = getD-replicate maxResources k 0 0 q ∙ largest-none i (λ l. viewOf t .c l (resource k))
 
 pub peaks-more : (t : Table) (i j : ℕ) (m r : Peaks) → i < j → PeaksTo t i j m → RaisedBy m (taskAt t j) r → PeaksTo t i (j + 1) r
 peaks-more t i j m r h is w k q =

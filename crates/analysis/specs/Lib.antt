@@ -1,7 +1,6 @@
 -- The code of the analysis against the definitions of `theory`.
 --   Tables    a table as the analysis reads it; the verdict on a task of it
 --   Answers   what `bound`, `analyse` and `analyse_all` answer, and what the row then holds
---   Points    the paper's points that speak of the analysis
 -- and, cited by the contracts of private functions alone, so that no reader has to believe them:
 --   Shares    what is left of a table in the analysis of one task, and its demand
 --   Pass      what the pass over the tasks keeps, and the share that it makes of each
@@ -11,4 +10,3 @@ pub mod Answers
 pub mod Shares
 pub mod Pass
 pub mod Parts
-pub mod Points

@@ -25,12 +25,12 @@ use Rattle.table.specs.Limits.{maxListing}
 use Rattle.table.specs.Empty.{emptyTable}
 use Rattle.table.specs.Faults.{_then_, unless, firstFault}
 use Rattle.table.specs.Rules.{tableFault}
-use Rattle.table.proofs.Determined.{number-determined, empty-determined, check-determined}
+use Rattle.table.proofs.Determined.{number-determined, empty-determined, check-determined, in-range-determined, times-determined, used-in-range-determined, totals-fit-determined, pair-determined}
 use Rattle.table.proofs.FirstLaws.{first-at, first-fine, each-fine}
 use Rattle.table.proofs.Acceptance.{fine-accepted, accepted-fine}
 use Rattle.field.specs.declared.Put.{Put}
 use Rattle.field.specs.declared.Put.the-variants.{Wrote, Short}
-use Rattle.field.proofs.Determined.{time-determined, count-determined, put-time-determined, put-count-determined}
+use Rattle.field.proofs.Determined.{time-determined, count-determined, ends-at-determined, put-time-determined, put-count-determined, put-text-determined, put-length-determined, count-len-determined, time-len-determined}
 use Rattle.listing.specs.declared.Past.{Past}
 use Rattle.listing.specs.declared.Said.{Said}
 use Rattle.listing.specs.declared.Said.the-variants.{Cpus, Task as TaskLine, Use, Not}
@@ -40,7 +40,18 @@ use Rattle.listing.specs.Write.{textOf, writeFault, written}
 use Rattle.listing.proofs.Determined.{read-determined, write-determined}
 use Rattle.analysis.specs.Answers.{boundFault, analysisFault, records, analysed, written as recordsWritten}
 use Rattle.analysis.proofs.Determined.{bound-determined, analyse-all-determined, analyse-determined}
-use Rattle.promises.specs.Demand1.{Determines, Keeps, at, FirstDecides, Demand1}
+use Rattle.promises.specs.Demand1.{Entries, Determines, Keeps, at, FirstDecides, Demand1}
+
+entries : Entries
+entries =
+    record {
+      check = λ a r x p. p;
+      read = λ κs a r x p. p;
+      write-answers = λ κs a r x p. p .0;
+      write-leaves = λ κs a r x p. p .1;
+      bound = λ a r x p. p;
+      analyse-all = λ a r x p. λ j. record { answer = p .0 j; rows = p .1 j };
+    }
 
 determines : Determines
 determines =
@@ -48,8 +59,18 @@ determines =
       number = number-determined;
       empty = empty-determined;
       check = check-determined;
+      in-range = in-range-determined;
+      times = times-determined;
+      used-in-range = used-in-range-determined;
+      totals-fit = totals-fit-determined;
+      pair = pair-determined;
       time = time-determined;
       count = count-determined;
+      ends-at = ends-at-determined;
+      time-len = time-len-determined;
+      count-len = count-len-determined;
+      put-length = put-length-determined;
+      put-text = put-text-determined;
       put-time = put-time-determined;
       put-count = put-count-determined;
       read = read-determined;
@@ -172,4 +193,4 @@ first-decides =
     }
 
 pub demand1 : Demand1
-demand1 = record { determines = determines; keeps = keeps; first-decides = first-decides }
+demand1 = record { entries = entries; determines = determines; keeps = keeps; first-decides = first-decides }

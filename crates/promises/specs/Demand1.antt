@@ -16,6 +16,7 @@ use Rattle.table.specs.declared.Fault.the-variants.{UnknownTask, TooShort}
 use Rattle.table.specs.declared.Table.{Table}
 use Rattle.table.specs.declared.Checked.{Checked}
 use Rattle.table.specs.declared.Checked.the-variants.{Fine, Refused}
+use Rattle.table.specs.Limits.{maxTasks}
 use Rattle.table.specs.Empty.{emptyTable}
 use Rattle.table.specs.Faults.{_then_, unless, firstFault}
 use Rattle.table.specs.Rules.{tableFault}
@@ -23,12 +24,22 @@ use Rattle.table.specs.Accepted.{Accepted}
 use Rattle.field.specs.declared.Put.the-variants.{Short}
 use Rattle.field.specs.Text.{putAnswer}
 use Rattle.listing.specs.Read.{readListing}
-use Rattle.listing.specs.Write.{textOf, writeFault, written}
+use Rattle.listing.specs.Write.{textOf, writeFault, writeAnswer, written}
 use Rattle.analysis.specs.declared.Record.{Record}
-use Rattle.analysis.specs.Answers.{boundFault, analysisFault, analysed, Filled}
+use Rattle.analysis.specs.Answers.{boundFault, boundOf, analysisFault, analysed, Filled}
 use Rattle.table.proofs.Fault.number.Reads as number
 use Rattle.table.proofs.Table.empty.Reads as empty
 use Rattle.table.proofs.check.Reads as check
+use Rattle.table.proofs.rules.in_range.Reads as in-range
+use Rattle.table.proofs.rules.pair.Reads as pair
+use Rattle.table.proofs.rules.times.Reads as times
+use Rattle.table.proofs.rules.totals_fit.Reads as totals-fit
+use Rattle.table.proofs.rules.used_in_range.Reads as used-in-range
+use Rattle.field.proofs.ends_at.Reads as ends-at
+use Rattle.field.proofs.Put.length.Reads as put-length
+use Rattle.field.proofs.writing.count_len.Reads as count-len
+use Rattle.field.proofs.writing.put_text.Reads as put-text
+use Rattle.field.proofs.writing.time_len.Reads as time-len
 use Rattle.field.proofs.count.Reads as count
 use Rattle.field.proofs.time.Reads as time
 use Rattle.field.proofs.writing.put_count.Reads as put-count
@@ -37,7 +48,17 @@ use Rattle.listing.proofs.read.Reads as read
 use Rattle.listing.proofs.write.Reads as write
 use Rattle.analysis.proofs.analyse_all.Reads as analyse-all
 use Rattle.analysis.proofs.bound.Reads as bound
-use Rattle.promises.specs.Words.{_exactly-if_}
+use Rattle.promises.specs.Words.{_exactly-if_, Answers, Leaves}
+
+-- ---- the library's entry points answer what these definitions say: what follows, here and in the other files, is said of them
+
+pub record Entries : Type 0 where
+  pub check : Answers (check.Learnt tt) (λ a. tableFault (a .0))
+  pub read : (κs : Lfts 1) → Answers (read.Learnt κs) (λ a. readListing (a .0 .now))
+  pub write-answers : (κs : Lfts 1) → Answers (write.Learnt κs) (λ a. writeAnswer (a .0) (length (a .1 .0 .now)))
+  pub write-leaves : (κs : Lfts 1) → Leaves (λ x. x .1 .0 .now) (write.Learnt κs) (λ a. written (a .0) (a .1 .0 .now))
+  pub bound : Answers (bound.Learnt tt) (λ a. boundOf (a .0) (a .1 .0))
+  pub analyse-all : Answers (analyse-all.Learnt tt) (λ a. record { answer = analysisFault (a .0) maxTasks; rows = analysed (a .0) (a .1 .0) })
 
 -- ---- two answers to one input are equal, and so is what then lies in everything lent
 
@@ -45,8 +66,18 @@ pub record Determines : Type 0 where
   pub number : Determined (number.Learnt tt)
   pub empty : Determined (empty.Learnt tt)
   pub check : Determined (check.Learnt tt)
+  pub in-range : Determined (in-range.Learnt tt)
+  pub times : Determined (times.Learnt tt)
+  pub used-in-range : Determined (used-in-range.Learnt tt)
+  pub totals-fit : Determined (totals-fit.Learnt tt)
+  pub pair : Determined (pair.Learnt tt)
   pub time : (κs : Lfts 1) → Determined (time.Learnt κs)
   pub count : (κs : Lfts 1) → Determined (count.Learnt κs)
+  pub ends-at : (κs : Lfts 1) → Determined (ends-at.Learnt κs)
+  pub time-len : Determined (time-len.Learnt tt)
+  pub count-len : Determined (count-len.Learnt tt)
+  pub put-length : Determined (put-length.Learnt tt)
+  pub put-text : (κs : Lfts 2) → DeterminedWith (λ x. x .0 .now) (put-text.Learnt κs)
   pub put-time : (κs : Lfts 1) → DeterminedWith (λ x. x .0 .now) (put-time.Learnt κs)
   pub put-count : (κs : Lfts 1) → DeterminedWith (λ x. x .0 .now) (put-count.Learnt κs)
   pub read : (κs : Lfts 1) → Determined (read.Learnt κs)
@@ -84,6 +115,7 @@ pub record FirstDecides : Type 0 where
   pub eleven-output : (t : Table) (room : ℕ) → tableFault t ≡ Fine → (writeFault t room ≡ at TooShort 0) exactly-if (room < length (textOf t))
 
 pub record Demand1 : Type 0 where
+  pub entries : Entries
   pub determines : Determines
   pub keeps : Keeps
   pub first-decides : FirstDecides

@@ -70,11 +70,8 @@ over-above v i g h =
     ∙ sum-eq i _ _ (λ l k. when-above l i (g (level l)) k)
 
 -- none of the first i + 1 tasks is below i
-pub below-none : (v : View) (i : ℕ) (g : Level → ℕ) → 0 ≡ sumTo (i + 1) (λ l. only (isAbove (level i) (level l)) (g (level l)))
-below-none v i g = omega (arith, sum-bound (i + 1) 0 _ (λ l h. le-of-eq (not-above i l (g (level l)) (omega arith))))
-
-pub largest-none : (v : View) (i : ℕ) (g : Level → ℕ) → 0 ≡ maxTo (i + 1) (λ l. only (isAbove (level i) (level l)) (g (level l)))
-largest-none v i g = omega (arith, max-bound (i + 1) 0 _ (λ l h. le-of-eq (not-above i l (g (level l)) (omega arith))))
+pub largest-none : (i : ℕ) (g : Level → ℕ) → 0 ≡ maxTo (i + 1) (λ l. only (isAbove (level i) (level l)) (g (level l)))
+largest-none i g = omega (arith, max-bound (i + 1) 0 _ (λ l h. le-of-eq (not-above i l (g (level l)) (omega arith))))
 
 -- where N is 0, so is the product
 pub where-used : (n w : ℕ) → n * w ≡ only (ltb 0 n) (n * w)

@@ -1,4 +1,4 @@
--- The paper's point on the quotient, computed: m 3, O, F and L each 1: the quotient is 1, not 3".
+-- The paper's point on the quotient, computed: "m 3, O, F and L each 1: the quotient is 1, not 3".
 use mathlib.Core.Path.{_≡_}
 use Rattle.theory.specs.Work.{quotient}
 
