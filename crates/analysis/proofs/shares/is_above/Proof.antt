@@ -1,0 +1,10 @@
+-- `analysis::shares::is_above` meets its contract. Assumes nothing.
+use borrow.Author.Needs.{needs}
+use Rattle.analysis.proofs.shares.is_above.Statement.{statement}
+use Rattle.analysis.proofs.shares.is_above.Tie as tie
+
+returns : tie.Need-returns
+returns c = search needs
+
+pub is-above-spec : {M : Type 1} → statement M
+is-above-spec = tie.close (tie.spec returns)
