@@ -48,7 +48,7 @@ fn main() -> ExitCode {
             ExitCode::SUCCESS
         }
         ["compare", report, probe] => {
-            if compare::reports(report) && probe::compare(probe) {
+            if compare::reports(report) && probe::compare(probe) && probe::longest_text(report, probe) {
                 ExitCode::SUCCESS
             } else {
                 ExitCode::FAILURE

@@ -4,8 +4,8 @@
 use crate::analysis::{self, Verdict};
 use crate::compare::{run, Tally};
 use crate::random::Random;
-use crate::table::{Refusal, Table};
-use crate::{generate, listing};
+use crate::table::{Lock, Refusal, Table};
+use crate::{generate, listing, report};
 
 const TABLES: u64 = 600;
 const ROWS: usize = 40;
@@ -119,4 +119,30 @@ pub fn compare(program: &str) -> bool {
     let mut wanted: Vec<String> = [4, 5, 7, 8, 9].iter().map(|k| format!("check: refused {k:>2}")).collect();
     wanted.extend(["check: fine", "bound: meets", "bound: misses", "bound: refused 10", "analyse: fine", "analyse: refused 11", "write: wrote", "write: refused 11"].map(String::from));
     tally.covers(&wanted)
+}
+
+/// No accepted table has a longer text: every pair in use, each number as long as it can be written. Of 16 totals that a run time of
+/// 9999.999 ms holds, nine at most have four digits before the point.
+fn longest() -> Table {
+    let mut table = Table::zero();
+    (table.m, table.n) = (64, 32);
+    for task in &mut table.tasks {
+        (task.t, task.c, task.d) = (9_999_999, 9_999_999, 9_999_999);
+        for (k, lock) in task.locks.iter_mut().enumerate() {
+            let time = if k < 9 { 1_000_001 } else { 100_001 };
+            *lock = Lock { n: 1_000, c: time, ct: time };
+        }
+    }
+    table
+}
+
+/// The longest text: written into an output of exactly its length, refused by one of a byte less, and read back.
+pub fn longest_text(report: &str, program: &str) -> bool {
+    let table = longest();
+    let text = listing::write(&table);
+    let same = [text.len(), text.len() - 1].iter().all(|&room| run(program, &request(4, room as u32, &table)) == output(&table, room).as_bytes())
+        && listing::read(text.as_bytes()) == Ok(table)
+        && run(report, text.as_bytes()) == report::quick(text.as_bytes()).as_bytes();
+    println!("the longest text, {} bytes, {}", text.len(), if same { "is written and read back" } else { "differs" });
+    same
 }
