@@ -10,21 +10,9 @@ use borrow.Author.Needs.{needs}
 use Rattle.analysis.proofs.bound.Statement.{statement}
 use Rattle.analysis.proofs.bound.Tie as tie
 
-check-requires : tie.Need-check-requires
-check-requires c κs = search needs
-
-enum-known-r : tie.Need-enum-known-r
-enum-known-r c = search needs
-
 returns : tie.Need-returns
 unfolding boundOf boundFault
 returns c = rw (sym (c .before .before .before .check .ensures) ∙ c .before .r .given .1)
-
-enum-told : tie.Need-enum-told
-enum-told c = search needs
-
-cast-number : tie.Need-cast-number
-cast-number c = search needs
 
 returns-2 : tie.Need-returns-2
 unfolding boundOf boundFault
@@ -58,11 +46,11 @@ pub bound-spec : {M : Type 1} → statement M
 bound-spec =
     tie.close
     (tie.spec
-    check-requires
-    enum-known-r
+    (λ c κs. search needs)
+    (λ c. search needs)
     returns
-    enum-told
-    cast-number
+    (λ c. search needs)
+    (λ c. search needs)
     returns-2
     returns-3
     verdict-at-requires

@@ -7,18 +7,9 @@ use borrow.Author.Needs.{needs}
 use Rattle.analysis.proofs.judge.Statement.{statement}
 use Rattle.analysis.proofs.judge.Tie as tie
 
-check-requires : tie.Need-check-requires
-check-requires c κs = search needs
-
-enum-known-r : tie.Need-enum-known-r
-enum-known-r c = search needs
-
 returns : tie.Need-returns
 unfolding analysisFault
 returns c = halts _ (c .before .before .before .check .ensures) (c .before .r .given .1)
-
-enum-told : tie.Need-enum-told
-enum-told c = search needs
 
 returns-2 : tie.Need-returns-2
 unfolding analysisFault
@@ -33,4 +24,4 @@ returns-3 c =
     rw (sym (b .before .before .check .ensures) ∙ b .enum-told .given .1, le-leb _ _ (c .if1 .left))
 
 pub judge-spec : {M : Type 1} → statement M
-judge-spec = tie.close (tie.spec check-requires enum-known-r returns enum-told returns-2 returns-3)
+judge-spec = tie.close (tie.spec (λ c κs. search needs) (λ c. search needs) returns (λ c. search needs) returns-2 returns-3)

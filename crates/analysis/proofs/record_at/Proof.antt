@@ -7,18 +7,12 @@ use borrow.Author.Needs.{needs}
 use Rattle.analysis.proofs.record_at.Statement.{statement}
 use Rattle.analysis.proofs.record_at.Tie as tie
 
-add-t3 : tie.Need-add-t3
-add-t3 c = search needs
-
 cast-t4 : tie.Need-cast-t4
 cast-t4 c = omega (arith, fine-accepted _ (c .pre .0) .tasks-most)
-
-verdict-at-requires : tie.Need-verdict-at-requires
-verdict-at-requires c κs = search needs
 
 returns : tie.Need-returns
 unfolding recordOf
 returns c = rw (add-one, c .verdict-at .ensures)
 
 pub record-at-spec : {M : Type 1} → statement M
-record-at-spec = tie.close (tie.spec add-t3 cast-t4 verdict-at-requires returns)
+record-at-spec = tie.close (tie.spec (λ c. search needs) cast-t4 (λ c κs. search needs) returns)

@@ -5,15 +5,6 @@ use borrow.Author.Needs.{needs}
 use Rattle.analysis.proofs.todo.Statement.{statement}
 use Rattle.analysis.proofs.todo.Tie as tie
 
-judge-requires : tie.Need-judge-requires
-judge-requires c κs = search needs
-
-enum-told : tie.Need-enum-told
-enum-told c = search needs
-
-enum-told-2 : tie.Need-enum-told-2
-enum-told-2 c = search needs
-
 returns : tie.Need-returns
 unfolding written
 returns c = rw (sym (c .before .before .judge .ensures) ∙ c .enum-told2 .given .1)
@@ -23,4 +14,4 @@ unfolding written
 returns-2 c = rw (sym (c .before .before .judge .ensures) ∙ c .enum-told .given .1)
 
 pub todo-spec : {M : Type 1} → statement M
-todo-spec = tie.close (tie.spec judge-requires enum-told enum-told-2 returns returns-2)
+todo-spec = tie.close (tie.spec (λ c κs. search needs) (λ c. search needs) (λ c. search needs) returns returns-2)

@@ -22,9 +22,6 @@ mul-a c = omega (arith, accepted c .tasks-most)
 element-copy-out-a : tie.Need-element-copy-out-a
 element-copy-out-a c = omega (arith, accepted c .tasks-most)
 
-shares-of-requires : tie.Need-shares-of-requires
-shares-of-requires c κs = search needs
-
 verdict-of-requires : tie.Need-verdict-of-requires
 verdict-of-requires c κs =
     let b = c .before .before in
@@ -42,4 +39,4 @@ returns c =
 
 pub verdict-at-spec : {M : Type 1} → statement M
 verdict-at-spec =
-    tie.close (tie.spec mul-a element-copy-out-a shares-of-requires verdict-of-requires returns)
+    tie.close (tie.spec mul-a element-copy-out-a (λ c κs. search needs) verdict-of-requires returns)

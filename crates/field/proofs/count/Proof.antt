@@ -13,15 +13,6 @@ use Rattle.field.proofs.count.Tie as tie
 of-run : (c : tie.After-n) → Of (c .n .given .0 .0) (c .n .given .0 .1 .0) ≡ runOf (c .before .before .before .before .args .s .now)
 of-run c = sym (c .n .given .1) ∙ c .before .before .leading .ensures
 
-leading-requires : tie.Need-leading-requires
-leading-requires c κs = search needs
-
-enum-known-n : tie.Need-enum-known-n
-enum-known-n c = search needs
-
-enum-told : tie.Need-enum-told
-enum-told c = search needs
-
 returns : tie.Need-returns
 returns c = count-long _ (sym (c .enum-told .given .1) ∙ c .before .before .leading .ensures)
 
@@ -30,9 +21,6 @@ returns-2 c = count-none _ _ _ (of-run (c .before .before)) (c .if1 .taken)
 
 returns-3 : tie.Need-returns-3
 returns-3 c = count-high _ _ _ (of-run (c .before .before .before)) (omega arith)
-
-ends-at-requires : tie.Need-ends-at-requires
-ends-at-requires c κs = search needs
 
 returns-4 : tie.Need-returns-4
 returns-4 c = count-open _ _ _ (of-run (c .before .before .before .before .before)) (stops (c .before .ends-at .ensures) (c .if3 .taken))
@@ -44,12 +32,12 @@ pub count-spec : {M : Type 1} → statement M
 count-spec =
     tie.close
     (tie.spec
-    leading-requires
-    enum-known-n
-    enum-told
+    (λ c κs. search needs)
+    (λ c. search needs)
+    (λ c. search needs)
     returns
     returns-2
     returns-3
-    ends-at-requires
+    (λ c κs. search needs)
     returns-4
     returns-5)

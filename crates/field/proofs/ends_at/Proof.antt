@@ -9,9 +9,6 @@ use Rattle.field.proofs.ends_at.Tie as tie
 returns : tie.Need-returns
 returns c = rw (drop-of-length-le _ (c .if1 .taken))
 
-shared-slice-read-b : tie.Need-shared-slice-read-b
-shared-slice-read-b c = search needs
-
 returns-2 : tie.Need-returns-2
 returns-2 c =
     let a = c .before .before .before .args in
@@ -23,4 +20,4 @@ returns-3 c =
     rw (drop-cons (a .s .now) (a .at) 0 (c .before .before .if1 .left), ne-eqb _ _ (c .if2 .left))
 
 pub ends-at-spec : {M : Type 1} → statement M
-ends-at-spec = tie.close (tie.spec returns shared-slice-read-b returns-2 returns-3)
+ends-at-spec = tie.close (tie.spec returns (λ c. search needs) returns-2 returns-3)

@@ -30,15 +30,6 @@ at-end c =
     let a = b .before .before .before .before .args in
     c .ends-at .ensures ∙ ap ends (sym (drop-drop (b .n .given .0 .0) (a .at) (a .s .now)))
 
-leading-at-requires : tie.Need-leading-at-requires
-leading-at-requires c κs = search needs
-
-enum-known-n : tie.Need-enum-known-n
-enum-known-n c = search needs
-
-enum-told : tie.Need-enum-told
-enum-told c = search needs
-
 returns : tie.Need-returns
 returns c = fraction-long _ _ _ (sym (c .enum-told .given .1) ∙ c .before .before .leading-at .ensures)
 
@@ -48,26 +39,14 @@ returns-2 c = fraction-none _ _ _ _ _ (of-run (c .before .before)) (c .if1 .take
 returns-3 : tie.Need-returns-3
 returns-3 c = fraction-high _ _ _ _ _ (of-run (c .before .before .before)) (omega arith)
 
-add-end : tie.Need-add-end
-add-end c = search needs
-
-ends-at-requires : tie.Need-ends-at-requires
-ends-at-requires c κs = search needs
-
 returns-4 : tie.Need-returns-4
 returns-4 c = fraction-open _ _ _ _ _ (of-run (c .before .before .before .before .before)) (stops (at-end (c .before)) (c .if3 .taken))
-
-mul-t10 : tie.Need-mul-t10
-mul-t10 c = search needs
 
 thousandths-requires : tie.Need-thousandths-requires
 thousandths-requires c κs =
     let n = c .before .before .before .before .before in
     let b : n .n .given .0 .1 .0 < 1000 = omega (arith, run-small _ _ _ (of-run n), pow-le-pow-right {n = 10} (lit< tt) {i = n .n .given .0 .0} {j = 3} (c .before .before .if2 .left)) in
     omega arith
-
-add-t12 : tie.Need-add-t12
-add-t12 c = search needs
 
 returns-5 : tie.Need-returns-5
 returns-5 c =
@@ -78,16 +57,16 @@ pub fraction-at-spec : {M : Type 1} → statement M
 fraction-at-spec =
     tie.close
     (tie.spec
-    leading-at-requires
-    enum-known-n
-    enum-told
+    (λ c κs. search needs)
+    (λ c. search needs)
+    (λ c. search needs)
     returns
     returns-2
     returns-3
-    add-end
-    ends-at-requires
+    (λ c. search needs)
+    (λ c κs. search needs)
     returns-4
-    mul-t10
+    (λ c. search needs)
     thousandths-requires
-    add-t12
+    (λ c. search needs)
     returns-5)

@@ -11,18 +11,6 @@ returns : tie.Need-returns
 unfolding runOf
 returns c = rw (drop-of-length-le _ (c .if1 .taken))
 
-sub-leading : tie.Need-sub-leading
-sub-leading c = search needs
-
-part-leading-start : tie.Need-part-leading-start
-part-leading-start c = search needs
-
-part-leading-end : tie.Need-part-leading-end
-part-leading-end c = search needs
-
-leading-requires : tie.Need-leading-requires
-leading-requires c κs = search needs
-
 returns-2 : tie.Need-returns-2
 unfolding runOf
 returns-2 c =
@@ -32,4 +20,4 @@ returns-2 c =
 pub leading-at-spec : {M : Type 1} → statement M
 leading-at-spec =
     tie.close
-    (tie.spec returns sub-leading part-leading-start part-leading-end leading-requires returns-2)
+    (tie.spec returns (λ c. search needs) (λ c. search needs) (λ c. search needs) (λ c κs. search needs) returns-2)

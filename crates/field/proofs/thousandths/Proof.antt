@@ -8,14 +8,8 @@ use Rattle.field.proofs.thousandths.Tie as tie
 thrice : (c : tie.Else2) → c .before .before .args .digits ≡ 3
 thrice c = omega arith
 
-mul-result : tie.Need-mul-result
-mul-result c = search needs
-
 returns : tie.Need-returns
 returns c = (rw (c .if1 .taken), omega arith)
-
-mul-result-2 : tie.Need-mul-result-2
-mul-result-2 c = search needs
 
 returns-2 : tie.Need-returns-2
 returns-2 c = (rw (c .if2 .taken), omega arith)
@@ -24,4 +18,4 @@ returns-3 : tie.Need-returns-3
 returns-3 c = (rw (thrice c) (omega arith), omega arith)
 
 pub thousandths-spec : {M : Type 1} → statement M
-thousandths-spec = tie.close (tie.spec mul-result returns mul-result-2 returns-2 returns-3)
+thousandths-spec = tie.close (tie.spec (λ c. search needs) returns (λ c. search needs) returns-2 returns-3)

@@ -14,32 +14,17 @@ of-run : (c : tie.After-n)
     → Of (c .n .given .0 .0) (c .n .given .0 .1 .0) ≡ runOf (c .before .before .before .before .args .s .now)
 of-run c = sym (c .n .given .1) ∙ c .before .before .leading .ensures
 
-leading-requires : tie.Need-leading-requires
-leading-requires c κs = search needs
-
-enum-known-n : tie.Need-enum-known-n
-enum-known-n c = search needs
-
-enum-told : tie.Need-enum-told
-enum-told c = search needs
-
 returns : tie.Need-returns
 returns c = time-long _ (sym (c .enum-told .given .1) ∙ c .before .before .leading .ensures)
 
 returns-2 : tie.Need-returns-2
 returns-2 c = time-none _ _ _ (of-run (c .before .before)) (c .if1 .taken)
 
-ends-at-requires : tie.Need-ends-at-requires
-ends-at-requires c κs = search needs
-
 mul-t7 : tie.Need-mul-t7
 mul-t7 c = omega (arith, run-small _ _ _ (of-run (c .before .before .before .before)))
 
 returns-3 : tie.Need-returns-3
 returns-3 c = time-whole _ _ _ (of-run (c .before .before .before .before)) (c .before .before .if1 .left) (sym (c .before .ends-at .ensures) ∙ c .if2 .taken)
-
-point-at-requires : tie.Need-point-at-requires
-point-at-requires c κs = search needs
 
 returns-4 : tie.Need-returns-4
 returns-4 c =
@@ -62,15 +47,15 @@ pub time-spec : {M : Type 1} → statement M
 time-spec =
     tie.close
     (tie.spec
-    leading-requires
-    enum-known-n
-    enum-told
+    (λ c κs. search needs)
+    (λ c. search needs)
+    (λ c. search needs)
     returns
     returns-2
-    ends-at-requires
+    (λ c κs. search needs)
     mul-t7
     returns-3
-    point-at-requires
+    (λ c κs. search needs)
     returns-4
     add-fraction-at
     fraction-at-requires

@@ -66,36 +66,15 @@ used : (c : tie.After-said3 Inv-loop μ-loop) → let l = c .before .before .bef
     (0 < l .past .tasks) × (1 ≤ c .said3 .given .0 .0 .0) × (c .said3 .given .0 .0 .0 ≤ maxResources)
 used c = use-room (next-line (next (c .before .before .before)) (c .said3 .given .1))
 
-refuse-requires : tie.Need-refuse-requires Inv-loop μ-loop
-refuse-requires c κs = search needs
-
 returns : tie.Need-returns Inv-loop μ-loop
 unfolding readListing
 returns c = rw (lt-leb (length (c .before .before .before .args .listing .now)) maxListing (c .before .if1 .taken)) (c .refuse .ensures)
 
-empty-requires : tie.Need-empty-requires Inv-loop μ-loop
-empty-requires c κs = search needs
-
 loop-holds : tie.Need-loop-holds Inv-loop μ-loop
 loop-holds c = left-start _ _ (c .empty .ensures)
 
-sub-line-len : tie.Need-sub-line-len Inv-loop μ-loop
-sub-line-len c = search needs
-
-part-line-len-start : tie.Need-part-line-len-start Inv-loop μ-loop
-part-line-len-start c = search needs
-
-part-line-len-end : tie.Need-part-line-len-end Inv-loop μ-loop
-part-line-len-end c = search needs
-
-line-len-requires : tie.Need-line-len-requires Inv-loop μ-loop
-line-len-requires c κs = search needs
-
 add-end : tie.Need-add-end Inv-loop μ-loop
 add-end c = omega (arith, within c)
-
-refuse-requires-2 : tie.Need-refuse-requires-2 Inv-loop μ-loop
-refuse-requires-2 c κs = search needs
 
 returns-2 : tie.Need-returns-2 Inv-loop μ-loop
 returns-2 c =
@@ -103,103 +82,40 @@ returns-2 c =
     let l = a .before .before .before in
     c .refuse2 .ensures ∙ sym (from-open (l .loop .table) (l .loop .past) (l .loop .number) (text l) (l .loop .at) _ (long a) (a .before .before .loop-test .taken) (c .before .if2 .taken)) ∙ whole l
 
-sub-line-of : tie.Need-sub-line-of Inv-loop μ-loop
-sub-line-of c = search needs
-
-part-line-of-start : tie.Need-part-line-of-start Inv-loop μ-loop
-part-line-of-start c = search needs
-
 part-line-of-end : tie.Need-part-line-of-end Inv-loop μ-loop
 part-line-of-end c = omega (arith, within (c .before))
-
-line-of-requires : tie.Need-line-of-requires Inv-loop μ-loop
-line-of-requires c κs = search needs
 
 after-requires : tie.Need-after-requires Inv-loop μ-loop
 after-requires c κs =
     let p = next-past (next c) in
     (p .tasks-most, omega arith)
 
-add-number : tie.Need-add-number Inv-loop μ-loop
-add-number c = search needs
-
 add-at : tie.Need-add-at Inv-loop μ-loop
 add-at c = omega (arith, next (c .before) .more)
-
-enum-known-said : tie.Need-enum-known-said Inv-loop μ-loop
-enum-known-said c = search needs
-
-loop-less : tie.Need-loop-less Inv-loop μ-loop
-loop-less c = search needs
 
 loop-again : tie.Need-loop-again Inv-loop μ-loop
 unfolding tableAfter
 loop-again c = next-left (next (c .before .before .before .before)) (c .before .said .given .1) (λ r. refl) refl (c .before .before .before .after .ensures)
 
-enum-known-said-2 : tie.Need-enum-known-said-2 Inv-loop μ-loop
-enum-known-said-2 c = search needs
-
-new-task-requires : tie.Need-new-task-requires Inv-loop μ-loop
-new-task-requires c κs = search needs
-
-mul-t35 : tie.Need-mul-t35 Inv-loop μ-loop
-mul-t35 c = search needs
-
 element-set-from-table : tie.Need-element-set-from-table Inv-loop μ-loop
 element-set-from-table c = task-room (next-line (next (c .before .before .before .before .before)) (c .before .before .said2 .given .1))
-
-add-table : tie.Need-add-table Inv-loop μ-loop
-add-table c = search needs
-
-loop-less-2 : tie.Need-loop-less-2 Inv-loop μ-loop
-loop-less-2 c = search needs
 
 loop-again-2 : tie.Need-loop-again-2 Inv-loop μ-loop
 unfolding tableAfter
 loop-again-2 c = next-left (next (c .before .before .before .before .before)) (c .before .before .said2 .given .1) (λ r. refl) (rw (c .new-task .ensures)) (c .before .before .before .before .after .ensures)
 
-enum-known-said-3 : tie.Need-enum-known-said-3 Inv-loop μ-loop
-enum-known-said-3 c = search needs
-
 sub-i : tie.Need-sub-i Inv-loop μ-loop
 sub-i c = used (c .before) .0
-
-mul-x : tie.Need-mul-x Inv-loop μ-loop
-mul-x c = search needs
-
-element-copy-out-x : tie.Need-element-copy-out-x Inv-loop μ-loop
-element-copy-out-x c = search needs
 
 sub-j : tie.Need-sub-j Inv-loop μ-loop
 sub-j c = used (c .before .before .before) .1
 
-cast-j : tie.Need-cast-j Inv-loop μ-loop
-cast-j c = search needs
-
-mul-p : tie.Need-mul-p Inv-loop μ-loop
-mul-p c = search needs
-
 element-set-from-p : tie.Need-element-set-from-p Inv-loop μ-loop
 element-set-from-p c = omega (arith, used (c .before .before .before))
-
-mul-t38 : tie.Need-mul-t38 Inv-loop μ-loop
-mul-t38 c = search needs
-
-element-set-from-table-2 : tie.Need-element-set-from-table-2 Inv-loop μ-loop
-element-set-from-table-2 c = search needs
-
-loop-less-3 : tie.Need-loop-less-3 Inv-loop μ-loop
-loop-less-3 c = search needs
 
 loop-again-3 : tie.Need-loop-again-3 Inv-loop μ-loop
 unfolding tableAfter
 loop-again-3 c = next-left (next (c .before .before .before .before .before .before)) (c .before .before .before .said3 .given .1) (λ r. refl) refl (c .before .before .before .before .before .after .ensures)
-
-enum-known-said-4 : tie.Need-enum-known-said-4 Inv-loop μ-loop
-enum-known-said-4 c = search needs
-
-empty-requires-2 : tie.Need-empty-requires-2 Inv-loop μ-loop
-empty-requires-2 c κs = search needs
 
 returns-3 : tie.Need-returns-3 Inv-loop μ-loop
 returns-3 c =
@@ -207,15 +123,9 @@ returns-3 c =
     let l = a .before .before .before .before .before .before in
     rw (c .empty2 .ensures) (next-not (next a) (c .before .before .said4 .given .1) ∙ from-start _ (l .before .before .if1 .left))
 
-refuse-requires-3 : tie.Need-refuse-requires-3 Inv-loop μ-loop
-refuse-requires-3 c κs = search needs
-
 returns-4 : tie.Need-returns-4 Inv-loop μ-loop
 unfolding readEnd
 returns-4 c = c .refuse3 .ensures ∙ rw (le-ltb 1 (c .before .before .before .loop .number) (c .before .if3 .taken)) at (ended (c .before .before))
-
-refuse-requires-4 : tie.Need-refuse-requires-4 Inv-loop μ-loop
-refuse-requires-4 c κs = search needs
 
 returns-5 : tie.Need-returns-5 Inv-loop μ-loop
 unfolding readEnd
@@ -237,51 +147,51 @@ read-spec =
     (tie.spec
     Inv-loop
     μ-loop
-    refuse-requires
+    (λ c κs. search needs)
     returns
-    empty-requires
+    (λ c κs. search needs)
     loop-holds
-    sub-line-len
-    part-line-len-start
-    part-line-len-end
-    line-len-requires
+    (λ c. search needs)
+    (λ c. search needs)
+    (λ c. search needs)
+    (λ c κs. search needs)
     add-end
-    refuse-requires-2
+    (λ c κs. search needs)
     returns-2
-    sub-line-of
-    part-line-of-start
+    (λ c. search needs)
+    (λ c. search needs)
     part-line-of-end
-    line-of-requires
+    (λ c κs. search needs)
     after-requires
-    add-number
+    (λ c. search needs)
     add-at
-    enum-known-said
-    loop-less
+    (λ c. search needs)
+    (λ c. search needs)
     loop-again
-    enum-known-said-2
-    new-task-requires
-    mul-t35
+    (λ c. search needs)
+    (λ c κs. search needs)
+    (λ c. search needs)
     element-set-from-table
-    add-table
-    loop-less-2
+    (λ c. search needs)
+    (λ c. search needs)
     loop-again-2
-    enum-known-said-3
+    (λ c. search needs)
     sub-i
-    mul-x
-    element-copy-out-x
+    (λ c. search needs)
+    (λ c. search needs)
     sub-j
-    cast-j
-    mul-p
+    (λ c. search needs)
+    (λ c. search needs)
     element-set-from-p
-    mul-t38
-    element-set-from-table-2
-    loop-less-3
+    (λ c. search needs)
+    (λ c. search needs)
+    (λ c. search needs)
     loop-again-3
-    enum-known-said-4
-    empty-requires-2
+    (λ c. search needs)
+    (λ c κs. search needs)
     returns-3
-    refuse-requires-3
+    (λ c κs. search needs)
     returns-4
-    refuse-requires-4
+    (λ c κs. search needs)
     returns-5
     returns-6)

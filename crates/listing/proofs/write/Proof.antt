@@ -13,18 +13,9 @@ use Rattle.listing.proofs.write.Tie as tie
 fine : (c : tie.After-enum-told) → tableFault (c .before .before .before .before .args .t) ≡ Fine
 fine c = sym (c .before .before .check .ensures) ∙ c .enum-told .given .1
 
-check-requires : tie.Need-check-requires
-check-requires c κs = search needs
-
-enum-known-r : tie.Need-enum-known-r
-enum-known-r c = search needs
-
 returns : tie.Need-returns
 unfolding writeFault writeAnswer written
 returns c = rw (sym (c .before .before .before .check .ensures) ∙ c .before .r .given .1) (refl, refl)
-
-enum-told : tie.Need-enum-told
-enum-told c = search needs
 
 table-len-requires : tie.Need-table-len-requires
 table-len-requires c κs = fine c
@@ -40,9 +31,6 @@ put-table-requires c κs =
     let l = c .before .before in
     (fine (l .before), omega arith)
 
-same-length : tie.Need-same-length
-same-length c = search needs
-
 returns-3 : tie.Need-returns-3
 unfolding writeFault writeAnswer written
 returns-3 c =
@@ -54,12 +42,12 @@ pub write-spec : {M : Type 1} → statement M
 write-spec =
     tie.close
     (tie.spec
-    check-requires
-    enum-known-r
+    (λ c κs. search needs)
+    (λ c. search needs)
     returns
-    enum-told
+    (λ c. search needs)
     table-len-requires
     returns-2
     put-table-requires
-    same-length
+    (λ c. search needs)
     returns-3)

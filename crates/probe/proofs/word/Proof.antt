@@ -5,32 +5,11 @@ use borrow.Author.Needs.{needs}
 use Rattle.probe.proofs.word.Statement.{statement}
 use Rattle.probe.proofs.word.Tie as tie
 
-returns : tie.Need-returns
-returns c = search needs
-
-mul-i : tie.Need-mul-i
-mul-i c = search needs
-
-add-if2 : tie.Need-add-if2
-add-if2 c = search needs
-
-returns-2 : tie.Need-returns-2
-returns-2 c = search needs
-
-shared-slice-read-result : tie.Need-shared-slice-read-result
-shared-slice-read-result c = search needs
-
 cast-result : tie.Need-cast-result
 cast-result c = omega (arith, c .shared-slice-known .given (c .before .before .before .args .at * 4))
 
 mul-result : tie.Need-mul-result
 mul-result c = omega (arith, c .shared-slice-known .given (c .before .before .before .args .at * 4))
-
-add-result : tie.Need-add-result
-add-result c = search needs
-
-shared-slice-read-result-2 : tie.Need-shared-slice-read-result-2
-shared-slice-read-result-2 c = search needs
 
 cast-result-2 : tie.Need-cast-result-2
 cast-result-2 c = omega (arith, c .shared-slice-known2 .given (c .before .before .before .before .args .at * 4 + 1))
@@ -41,12 +20,6 @@ mul-result-2 c = omega (arith, c .shared-slice-known2 .given (c .before .before 
 add-result-2 : tie.Need-add-result-2
 add-result-2 c = omega (arith, c .before .shared-slice-known .given (c .before .before .before .before .args .at * 4), c .shared-slice-known2 .given (c .before .before .before .before .args .at * 4 + 1))
 
-add-result-3 : tie.Need-add-result-3
-add-result-3 c = search needs
-
-shared-slice-read-result-3 : tie.Need-shared-slice-read-result-3
-shared-slice-read-result-3 c = search needs
-
 cast-result-3 : tie.Need-cast-result-3
 cast-result-3 c = omega (arith, c .shared-slice-known3 .given (c .before .before .before .before .before .args .at * 4 + 2))
 
@@ -56,44 +29,35 @@ mul-result-3 c = omega (arith, c .shared-slice-known3 .given (c .before .before 
 add-result-4 : tie.Need-add-result-4
 add-result-4 c = omega (arith, c .before .before .shared-slice-known .given (c .before .before .before .before .before .args .at * 4), c .before .shared-slice-known2 .given (c .before .before .before .before .before .args .at * 4 + 1), c .shared-slice-known3 .given (c .before .before .before .before .before .args .at * 4 + 2))
 
-add-result-5 : tie.Need-add-result-5
-add-result-5 c = search needs
-
-shared-slice-read-result-4 : tie.Need-shared-slice-read-result-4
-shared-slice-read-result-4 c = search needs
-
 cast-result-4 : tie.Need-cast-result-4
 cast-result-4 c = omega (arith, c .shared-slice-known4 .given (c .before .before .before .before .before .before .args .at * 4 + 3))
 
 add-result-6 : tie.Need-add-result-6
 add-result-6 c = omega (arith, c .before .before .before .shared-slice-known .given (c .before .before .before .before .before .before .args .at * 4), c .before .before .shared-slice-known2 .given (c .before .before .before .before .before .before .args .at * 4 + 1), c .before .shared-slice-known3 .given (c .before .before .before .before .before .before .args .at * 4 + 2), c .shared-slice-known4 .given (c .before .before .before .before .before .before .args .at * 4 + 3))
 
-returns-3 : tie.Need-returns-3
-returns-3 c = search needs
-
 pub word-spec : {M : Type 1} → statement M
 word-spec =
     tie.close
     (tie.spec
-    returns
-    mul-i
-    add-if2
-    returns-2
-    shared-slice-read-result
+    (λ c. search needs)
+    (λ c. search needs)
+    (λ c. search needs)
+    (λ c. search needs)
+    (λ c. search needs)
     cast-result
     mul-result
-    add-result
-    shared-slice-read-result-2
+    (λ c. search needs)
+    (λ c. search needs)
     cast-result-2
     mul-result-2
     add-result-2
-    add-result-3
-    shared-slice-read-result-3
+    (λ c. search needs)
+    (λ c. search needs)
     cast-result-3
     mul-result-3
     add-result-4
-    add-result-5
-    shared-slice-read-result-4
+    (λ c. search needs)
+    (λ c. search needs)
     cast-result-4
     add-result-6
-    returns-3)
+    (λ c. search needs))

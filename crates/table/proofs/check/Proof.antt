@@ -14,18 +14,12 @@ returns-2 : tie.Need-returns-2
 unfolding tableFault
 returns-2 c = simp (le-leb _ _ (c .before .before .if1 .left), lt-leb _ _ (c .if2 .taken))
 
-in-range-requires : tie.Need-in-range-requires
-in-range-requires c κs = search needs
-
 returns-3 : tie.Need-returns-3
 unfolding tableFault
 returns-3 c =
     let b = c .before .before in
     simp
     (le-leb _ _ (b .before .before .if1 .left), le-leb _ _ (b .if2 .left), stops (c .before .in-range .ensures) (c .if3 .taken))
-
-check-tasks-requires : tie.Need-check-tasks-requires
-check-tasks-requires c κs = search needs
 
 returns-4 : tie.Need-returns-4
 unfolding tableFault
@@ -39,4 +33,4 @@ returns-4 c =
 pub check-spec : {M : Type 1} → statement M
 check-spec =
     tie.close
-    (tie.spec returns returns-2 in-range-requires returns-3 check-tasks-requires returns-4)
+    (tie.spec returns returns-2 (λ c κs. search needs) returns-3 (λ c κs. search needs) returns-4)

@@ -20,24 +20,6 @@ loop-holds : tie.Need-loop-holds Inv-loop μ-loop
 unfolding firstFault
 loop-holds c = (search needs, search needs, refl)
 
-sub-i : tie.Need-sub-i Inv-loop μ-loop
-sub-i c = search needs
-
-mul-x : tie.Need-mul-x Inv-loop μ-loop
-mul-x c = search needs
-
-element-copy-out-x : tie.Need-element-copy-out-x Inv-loop μ-loop
-element-copy-out-x c = search needs
-
-cast-check-task : tie.Need-cast-check-task Inv-loop μ-loop
-cast-check-task c = search needs
-
-check-task-requires : tie.Need-check-task-requires Inv-loop μ-loop
-check-task-requires c κs = search needs
-
-enum-known-f : tie.Need-enum-known-f Inv-loop μ-loop
-enum-known-f c = search needs
-
 -- what the call found is the fault of the task with this number
 at-number : (c : tie.After-check-task Inv-loop μ-loop)
     → taskFaultAt (c .before .before .before .before .args .t1) (c .before .before .before .loop .number - 1) ≡ c .check-task .result
@@ -52,15 +34,6 @@ returns c =
     let b = c .before .before .before in
     let l = b .before .before .before .loop in
     sym (first-at _ (l .number - 1) _ _ (omega arith) (l .inv .2) (at-number b ∙ c .before .f .given .1))
-
-enum-told : tie.Need-enum-told Inv-loop μ-loop
-enum-told c = search needs
-
-add-number : tie.Need-add-number Inv-loop μ-loop
-add-number c = search needs
-
-loop-less : tie.Need-loop-less Inv-loop μ-loop
-loop-less c = search needs
 
 loop-again : tie.Need-loop-again Inv-loop μ-loop
 loop-again c =
@@ -83,15 +56,15 @@ check-tasks-spec =
     Inv-loop
     μ-loop
     loop-holds
-    sub-i
-    mul-x
-    element-copy-out-x
-    cast-check-task
-    check-task-requires
-    enum-known-f
+    (λ c. search needs)
+    (λ c. search needs)
+    (λ c. search needs)
+    (λ c. search needs)
+    (λ c κs. search needs)
+    (λ c. search needs)
     returns
-    enum-told
-    add-number
-    loop-less
+    (λ c. search needs)
+    (λ c. search needs)
+    (λ c. search needs)
     loop-again
     returns-2)

@@ -18,12 +18,6 @@ fits c =
     let h = b .pre .0 .units-period in
     (units-fit _ _ _ _ (c .quot .ensures) h, periods-fit _ _ _ _ (c .quot .ensures) h)
 
-add-a : tie.Need-add-a
-add-a c = search needs
-
-quot-requires : tie.Need-quot-requires
-quot-requires c κs = search needs
-
 mul-wide : tie.Need-mul-wide
 mul-wide c = omega (arith, fits (c .before))
 
@@ -32,9 +26,6 @@ mul-least c = omega (arith, fits (c .before .before))
 
 sub-least : tie.Need-sub-least
 sub-least c = fits (c .before .before) .1
-
-least-requires : tie.Need-least-requires
-least-requires c κs = search needs
 
 -- what they come to
 is : (c : tie.After-least)
@@ -55,9 +46,6 @@ is c =
 add-wide : tie.Need-add-wide
 add-wide c = omega (arith, is c)
 
-wide-requires : tie.Need-wide-requires
-wide-requires c κs = search needs
-
 returns : tie.Need-returns
 returns c =
     let w = c .wide .ensures in
@@ -67,12 +55,12 @@ pub load-spec : {M : Type 1} → statement M
 load-spec =
     tie.close
     (tie.spec
-    add-a
-    quot-requires
+    (λ c. search needs)
+    (λ c κs. search needs)
     mul-wide
     mul-least
     sub-least
-    least-requires
+    (λ c κs. search needs)
     add-wide
-    wide-requires
+    (λ c κs. search needs)
     returns)

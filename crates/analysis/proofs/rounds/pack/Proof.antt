@@ -25,68 +25,29 @@ loop-holds c =
       front-none (λ l. partOf (shareAt s l)) refl,
     )
 
-mul-e : tie.Need-mul-e Inv-loop μ-loop
-mul-e c = search needs
-
-element-copy-out-e : tie.Need-element-copy-out-e Inv-loop μ-loop
-element-copy-out-e c = search needs
-
 part-of-requires : tie.Need-part-of-requires Inv-loop μ-loop
 part-of-requires c κs =
     let l = c .before .before in
     l .before .pre .each (l .loop .k) (c .before .loop-test .taken) .whole
 
-mul-whole : tie.Need-mul-whole Inv-loop μ-loop
-mul-whole c = search needs
-
 array-set-from-whole : tie.Need-array-set-from-whole Inv-loop μ-loop
 array-set-from-whole c = omega arith
-
-some-requires : tie.Need-some-requires Inv-loop μ-loop
-some-requires c κs = search needs
-
-add-w : tie.Need-add-w Inv-loop μ-loop
-add-w c = search needs
 
 part-of-requires-2 : tie.Need-part-of-requires-2 Inv-loop μ-loop
 part-of-requires-2 c κs =
     let l = c .before .before .before .before in
     l .before .pre .each (l .loop .k) (omega arith) .one
 
-mul-part : tie.Need-mul-part Inv-loop μ-loop
-mul-part c = search needs
-
 array-set-from-part : tie.Need-array-set-from-part Inv-loop μ-loop
 array-set-from-part c = omega arith
-
-some-requires-2 : tie.Need-some-requires-2 Inv-loop μ-loop
-some-requires-2 c κs = search needs
-
-add-p : tie.Need-add-p Inv-loop μ-loop
-add-p c = search needs
 
 part-of-requires-3 : tie.Need-part-of-requires-3 Inv-loop μ-loop
 part-of-requires-3 c κs =
     let l = c .before .before .before .before .before .before in
     l .before .pre .each (l .loop .k) (omega arith) .two
 
-mul-part-2 : tie.Need-mul-part-2 Inv-loop μ-loop
-mul-part-2 c = search needs
-
 array-set-from-part-2 : tie.Need-array-set-from-part-2 Inv-loop μ-loop
 array-set-from-part-2 c = omega arith
-
-some-requires-3 : tie.Need-some-requires-3 Inv-loop μ-loop
-some-requires-3 c κs = search needs
-
-add-p-2 : tie.Need-add-p-2 Inv-loop μ-loop
-add-p-2 c = search needs
-
-add-k : tie.Need-add-k Inv-loop μ-loop
-add-k c = search needs
-
-loop-less : tie.Need-loop-less Inv-loop μ-loop
-loop-less c = search needs
 
 loop-again : tie.Need-loop-again Inv-loop μ-loop
 loop-again c =
@@ -125,24 +86,24 @@ pack-spec =
     Inv-loop
     μ-loop
     loop-holds
-    mul-e
-    element-copy-out-e
+    (λ c. search needs)
+    (λ c. search needs)
     part-of-requires
-    mul-whole
+    (λ c. search needs)
     array-set-from-whole
-    some-requires
-    add-w
+    (λ c κs. search needs)
+    (λ c. search needs)
     part-of-requires-2
-    mul-part
+    (λ c. search needs)
     array-set-from-part
-    some-requires-2
-    add-p
+    (λ c κs. search needs)
+    (λ c. search needs)
     part-of-requires-3
-    mul-part-2
+    (λ c. search needs)
     array-set-from-part-2
-    some-requires-3
-    add-p-2
-    add-k
-    loop-less
+    (λ c κs. search needs)
+    (λ c. search needs)
+    (λ c. search needs)
+    (λ c. search needs)
     loop-again
     returns)

@@ -7,20 +7,11 @@ use borrow.Author.Needs.{needs}
 use Rattle.analysis.proofs.rounds.quot.Statement.{statement}
 use Rattle.analysis.proofs.rounds.quot.Tie as tie
 
-wide-requires : tie.Need-wide-requires
-wide-requires c κs = search needs
-
 mul-result : tie.Need-mul-result
 mul-result c =
     let b = c .before .before in
     let near : c .before .wide .result ≤ 20_000_000 = omega arith in
     omega (arith, mul-le-mul near (b .pre .0 .divides .small))
-
-cast-result : tie.Need-cast-result
-cast-result c = search needs
-
-shr-result : tie.Need-shr-result
-shr-result c = search needs
 
 is : (c : tie.After-struct-known2)
     → let b = c .before .before .before in
@@ -40,4 +31,4 @@ returns c = is c
 
 pub quot-spec : {M : Type 1} → statement M
 quot-spec =
-    tie.close (tie.spec wide-requires mul-result cast-result shr-result cast-result-2 returns)
+    tie.close (tie.spec (λ c κs. search needs) mul-result (λ c. search needs) (λ c. search needs) cast-result-2 returns)

@@ -26,12 +26,6 @@ Inv-loop s deadline x n m last t₀ t = Sought s deadline t
 abbrev μ-loop : tie.MeasureT-loop
 μ-loop s deadline x n m last t₀ t = deadline - t
 
-pack-requires : tie.Need-pack-requires Inv-loop2 μ-loop2 Inv-loop3 μ-loop3 Inv-loop μ-loop
-pack-requires c κs = search needs
-
-wide-requires : tie.Need-wide-requires Inv-loop2 μ-loop2 Inv-loop3 μ-loop3 Inv-loop μ-loop
-wide-requires c κs = search needs
-
 loop-holds : tie.Need-loop-holds Inv-loop2 μ-loop2 Inv-loop3 μ-loop3 Inv-loop μ-loop
 loop-holds c =
     let b = c .before .before in
@@ -39,9 +33,6 @@ loop-holds c =
 
 loop2-holds : tie.Need-loop2-holds Inv-loop2 μ-loop2 Inv-loop3 μ-loop3 Inv-loop μ-loop
 loop2-holds c = (search needs, summed-none)
-
-mul-e : tie.Need-mul-e Inv-loop2 μ-loop2 Inv-loop3 μ-loop3 Inv-loop μ-loop
-mul-e c = search needs
 
 element-copy-out-e :
     tie.Need-element-copy-out-e Inv-loop2 μ-loop2 Inv-loop3 μ-loop3 Inv-loop μ-loop
@@ -52,23 +43,11 @@ load-requires c κs =
     let l = c .before .before in
     (l .before .before .before .pack .ensures .wholes-good (l .loop2 .i) (c .before .loop2-test .taken), omega arith)
 
-add-whole : tie.Need-add-whole Inv-loop2 μ-loop2 Inv-loop3 μ-loop3 Inv-loop μ-loop
-add-whole c = search needs
-
-add-i : tie.Need-add-i Inv-loop2 μ-loop2 Inv-loop3 μ-loop3 Inv-loop μ-loop
-add-i c = search needs
-
-loop2-less : tie.Need-loop2-less Inv-loop2 μ-loop2 Inv-loop3 μ-loop3 Inv-loop μ-loop
-loop2-less c = search needs
-
 loop2-again : tie.Need-loop2-again Inv-loop2 μ-loop2 Inv-loop3 μ-loop3 Inv-loop μ-loop
 loop2-again c = (search needs, summed-more (c .before .before .before .loop2 .inv .1) (c .load .ensures))
 
 loop3-holds : tie.Need-loop3-holds Inv-loop2 μ-loop2 Inv-loop3 μ-loop3 Inv-loop μ-loop
 loop3-holds c = (search needs, summed-none)
-
-mul-e-2 : tie.Need-mul-e-2 Inv-loop2 μ-loop2 Inv-loop3 μ-loop3 Inv-loop μ-loop
-mul-e-2 c = search needs
 
 element-copy-out-e-2 :
     tie.Need-element-copy-out-e-2 Inv-loop2 μ-loop2 Inv-loop3 μ-loop3 Inv-loop μ-loop
@@ -78,15 +57,6 @@ load-requires-2 : tie.Need-load-requires-2 Inv-loop2 μ-loop2 Inv-loop3 μ-loop3
 load-requires-2 c κs =
     let l = c .before .before in
     (l .before .before .before .before .before .pack .ensures .parts-good (l .loop3 .j) (c .before .loop3-test .taken), omega arith)
-
-add-part : tie.Need-add-part Inv-loop2 μ-loop2 Inv-loop3 μ-loop3 Inv-loop μ-loop
-add-part c = search needs
-
-add-j : tie.Need-add-j Inv-loop2 μ-loop2 Inv-loop3 μ-loop3 Inv-loop μ-loop
-add-j c = search needs
-
-loop3-less : tie.Need-loop3-less Inv-loop2 μ-loop2 Inv-loop3 μ-loop3 Inv-loop μ-loop
-loop3-less c = search needs
 
 loop3-again : tie.Need-loop3-again Inv-loop2 μ-loop2 Inv-loop3 μ-loop3 Inv-loop μ-loop
 loop3-again c = (search needs, summed-more (c .before .before .before .loop3 .inv .1) (c .load2 .ensures))
@@ -107,38 +77,17 @@ round c =
       is = round-is (k .pack .ensures) (l .loop .inv .low) (w .loop2 .inv .1) (omega arith) (p .inv .1) (omega arith);
     }
 
-add-f : tie.Need-add-f Inv-loop2 μ-loop2 Inv-loop3 μ-loop3 Inv-loop μ-loop
-add-f c = search needs
-
-sub-f : tie.Need-sub-f Inv-loop2 μ-loop2 Inv-loop3 μ-loop3 Inv-loop μ-loop
-sub-f c = search needs
-
-add-f-2 : tie.Need-add-f-2 Inv-loop2 μ-loop2 Inv-loop3 μ-loop3 Inv-loop μ-loop
-add-f-2 c = search needs
-
-div-f : tie.Need-div-f Inv-loop2 μ-loop2 Inv-loop3 μ-loop3 Inv-loop μ-loop
-div-f c = search needs
-
 add-f-3 : tie.Need-add-f-3 Inv-loop2 μ-loop2 Inv-loop3 μ-loop3 Inv-loop μ-loop
 add-f-3 c =
     let part = c .before .before .before .before .loop3 .part in
     let cpus = c .before .before .before .before .before .before .before .before .before .before .args .s .cpus in
     omega (arith, div-le-self (part + (cpus - 1)) cpus)
 
-wide-requires-2 : tie.Need-wide-requires-2 Inv-loop2 μ-loop2 Inv-loop3 μ-loop3 Inv-loop μ-loop
-wide-requires-2 c κs = search needs
-
 returns : tie.Need-returns Inv-loop2 μ-loop2 Inv-loop3 μ-loop3 Inv-loop μ-loop
 returns c = round-meets (round (c .before .before .before .before .before)) (omega arith)
 
 returns-2 : tie.Need-returns-2 Inv-loop2 μ-loop2 Inv-loop3 μ-loop3 Inv-loop μ-loop
 returns-2 c = round-misses (round (c .before .before .before .before .before .before)) (omega arith)
-
-cast-t : tie.Need-cast-t Inv-loop2 μ-loop2 Inv-loop3 μ-loop3 Inv-loop μ-loop
-cast-t c = search needs
-
-loop-less : tie.Need-loop-less Inv-loop2 μ-loop2 Inv-loop3 μ-loop3 Inv-loop μ-loop
-loop-less c = search needs
 
 loop-again : tie.Need-loop-again Inv-loop2 μ-loop2 Inv-loop3 μ-loop3 Inv-loop μ-loop
 loop-again c = round-more (round (c .before .before .before .before .before .before)) (omega arith) (omega arith)
@@ -153,33 +102,33 @@ verdict-of-spec =
     μ-loop3
     Inv-loop
     μ-loop
-    pack-requires
-    wide-requires
+    (λ c κs. search needs)
+    (λ c κs. search needs)
     loop-holds
     loop2-holds
-    mul-e
+    (λ c. search needs)
     element-copy-out-e
     load-requires
-    add-whole
-    add-i
-    loop2-less
+    (λ c. search needs)
+    (λ c. search needs)
+    (λ c. search needs)
     loop2-again
     loop3-holds
-    mul-e-2
+    (λ c. search needs)
     element-copy-out-e-2
     load-requires-2
-    add-part
-    add-j
-    loop3-less
+    (λ c. search needs)
+    (λ c. search needs)
+    (λ c. search needs)
     loop3-again
-    add-f
-    sub-f
-    add-f-2
-    div-f
+    (λ c. search needs)
+    (λ c. search needs)
+    (λ c. search needs)
+    (λ c. search needs)
     add-f-3
-    wide-requires-2
+    (λ c κs. search needs)
     returns
     returns-2
-    cast-t
-    loop-less
+    (λ c. search needs)
+    (λ c. search needs)
     loop-again)

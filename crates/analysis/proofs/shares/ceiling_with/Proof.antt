@@ -8,9 +8,6 @@ use Rattle.analysis.proofs.shares.ceiling_with.Tie as tie
 returns : tie.Need-returns
 returns c = rw (le-ltb 0 (c .before .args .requests) (omega arith))
 
-is-above-requires : tie.Need-is-above-requires
-is-above-requires c κs = search needs
-
 returns-2 : tie.Need-returns-2
 returns-2 c =
     let a = c .before .before .before .args in
@@ -22,4 +19,4 @@ returns-3 c =
     rw (lt-ltb 0 (a .requests) (omega arith), ← c .before .is-above .ensures, c .if2 .left)
 
 pub ceiling-with-spec : {M : Type 1} → statement M
-ceiling-with-spec = tie.close (tie.spec returns is-above-requires returns-2 returns-3)
+ceiling-with-spec = tie.close (tie.spec returns (λ c κs. search needs) returns-2 returns-3)

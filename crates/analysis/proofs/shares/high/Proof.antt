@@ -19,27 +19,6 @@ abbrev μ-loop : tie.MeasureT-loop
 loop-holds : tie.Need-loop-holds Inv-loop μ-loop
 loop-holds c = (search needs, filled-none _ _ _ _ refl)
 
-slot-requires : tie.Need-slot-requires Inv-loop μ-loop
-slot-requires c κs = search needs
-
-mul-ceiling : tie.Need-mul-ceiling Inv-loop μ-loop
-mul-ceiling c = search needs
-
-element-copy-out-ceiling : tie.Need-element-copy-out-ceiling Inv-loop μ-loop
-element-copy-out-ceiling c = search needs
-
-is-above-requires : tie.Need-is-above-requires Inv-loop μ-loop
-is-above-requires c κs = search needs
-
-array-write-on : tie.Need-array-write-on Inv-loop μ-loop
-array-write-on c = search needs
-
-add-number : tie.Need-add-number Inv-loop μ-loop
-add-number c = search needs
-
-loop-less : tie.Need-loop-less Inv-loop μ-loop
-loop-less c = search needs
-
 loop-again : tie.Need-loop-again Inv-loop μ-loop
 loop-again c =
     let p = c .before .before in
@@ -55,12 +34,12 @@ high-spec =
     Inv-loop
     μ-loop
     loop-holds
-    slot-requires
-    mul-ceiling
-    element-copy-out-ceiling
-    is-above-requires
-    array-write-on
-    add-number
-    loop-less
+    (λ c κs. search needs)
+    (λ c. search needs)
+    (λ c. search needs)
+    (λ c κs. search needs)
+    (λ c. search needs)
+    (λ c. search needs)
+    (λ c. search needs)
     loop-again
     returns)

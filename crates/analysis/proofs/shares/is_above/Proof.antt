@@ -3,8 +3,5 @@ use borrow.Author.Needs.{needs}
 use Rattle.analysis.proofs.shares.is_above.Statement.{statement}
 use Rattle.analysis.proofs.shares.is_above.Tie as tie
 
-returns : tie.Need-returns
-returns c = search needs
-
 pub is-above-spec : {M : Type 1} → statement M
-is-above-spec = tie.close (tie.spec returns)
+is-above-spec = tie.close (tie.spec (λ c. search needs))

@@ -5,12 +5,6 @@ use Rattle.basics.specs.Choice.{pick}
 use Rattle.analysis.proofs.shares.lower.Statement.{statement}
 use Rattle.analysis.proofs.shares.lower.Tie as tie
 
-split-requires : tie.Need-split-requires
-split-requires c κs = search needs
-
-unless-requires : tie.Need-unless-requires
-unless-requires c κs = search needs
-
 returns : tie.Need-returns
 returns c =
     record {
@@ -22,4 +16,4 @@ returns c =
     }
 
 pub lower-spec : {M : Type 1} → statement M
-lower-spec = tie.close (tie.spec split-requires unless-requires returns)
+lower-spec = tie.close (tie.spec (λ c κs. search needs) (λ c κs. search needs) returns)

@@ -31,20 +31,8 @@ mul-a c = omega (arith, accepted c .tasks-most)
 element-copy-out-a : tie.Need-element-copy-out-a Inv-loop μ-loop Inv-loop2 μ-loop2
 element-copy-out-a c = omega (arith, accepted c .tasks-most)
 
-add-short : tie.Need-add-short Inv-loop μ-loop Inv-loop2 μ-loop2
-add-short c = search needs
-
 cast-short : tie.Need-cast-short Inv-loop μ-loop Inv-loop2 μ-loop2
 cast-short c = omega (arith, accepted (c .before) .tasks-most)
-
-used-by-requires : tie.Need-used-by-requires Inv-loop μ-loop Inv-loop2 μ-loop2
-used-by-requires c κs = search needs
-
-cast-t24 : tie.Need-cast-t24 Inv-loop μ-loop Inv-loop2 μ-loop2
-cast-t24 c = search needs
-
-add-t25 : tie.Need-add-t25 Inv-loop μ-loop Inv-loop2 μ-loop2
-add-t25 c = search needs
 
 loop-holds : tie.Need-loop-holds Inv-loop μ-loop Inv-loop2 μ-loop2
 loop-holds c =
@@ -56,38 +44,11 @@ loop-holds c =
       ceilings-none (b .args .t1) (b .args .i) (omega arith),
     )
 
-mul-b : tie.Need-mul-b Inv-loop μ-loop Inv-loop2 μ-loop2
-mul-b c = search needs
-
-element-copy-out-b : tie.Need-element-copy-out-b Inv-loop μ-loop Inv-loop2 μ-loop2
-element-copy-out-b c = search needs
-
 upper-requires : tie.Need-upper-requires Inv-loop μ-loop Inv-loop2 μ-loop2
 upper-requires c κs =
     let p = c .before .before in
     let b = p .before .before .before .before in
     accepted b .task (p .loop .l) (omega arith)
-
-mul-of : tie.Need-mul-of Inv-loop μ-loop Inv-loop2 μ-loop2
-mul-of c = search needs
-
-array-set-from-of : tie.Need-array-set-from-of Inv-loop μ-loop Inv-loop2 μ-loop2
-array-set-from-of c = search needs
-
-add-t28 : tie.Need-add-t28 Inv-loop μ-loop Inv-loop2 μ-loop2
-add-t28 c = search needs
-
-cast-t35 : tie.Need-cast-t35 Inv-loop μ-loop Inv-loop2 μ-loop2
-cast-t35 c = search needs
-
-ceilings-with-requires : tie.Need-ceilings-with-requires Inv-loop μ-loop Inv-loop2 μ-loop2
-ceilings-with-requires c κs = search needs
-
-add-l : tie.Need-add-l Inv-loop μ-loop Inv-loop2 μ-loop2
-add-l c = search needs
-
-loop-less : tie.Need-loop-less Inv-loop μ-loop Inv-loop2 μ-loop2
-loop-less c = search needs
 
 loop-again : tie.Need-loop-again Inv-loop μ-loop Inv-loop2 μ-loop2
 loop-again c =
@@ -102,21 +63,6 @@ loop-again c =
       filled-more (p .loop .inv .2) (omega arith) _ _ refl share _ refl,
       ceilings-more t i (p .loop .ceilings) (c .ceilings-with .result) (p .loop .l) (omega arith) (p .loop .inv .3) (c .ceilings-with .ensures),
     )
-
-mul-of-2 : tie.Need-mul-of-2 Inv-loop μ-loop Inv-loop2 μ-loop2
-mul-of-2 c = search needs
-
-array-set-from-of-2 : tie.Need-array-set-from-of-2 Inv-loop μ-loop Inv-loop2 μ-loop2
-array-set-from-of-2 c = search needs
-
-ceilings-with-requires-2 : tie.Need-ceilings-with-requires-2 Inv-loop μ-loop Inv-loop2 μ-loop2
-ceilings-with-requires-2 c κs = search needs
-
-high-requires : tie.Need-high-requires Inv-loop μ-loop Inv-loop2 μ-loop2
-high-requires c κs = search needs
-
-add-j : tie.Need-add-j Inv-loop μ-loop Inv-loop2 μ-loop2
-add-j c = search needs
 
 -- the marks are those of the ceilings above i
 above : (c : tie.After-high Inv-loop μ-loop Inv-loop2 μ-loop2)
@@ -144,32 +90,11 @@ loop2-holds c =
       peaks-none t i,
     )
 
-mul-b-2 : tie.Need-mul-b-2 Inv-loop μ-loop Inv-loop2 μ-loop2
-mul-b-2 c = search needs
-
-element-copy-out-b-2 : tie.Need-element-copy-out-b-2 Inv-loop μ-loop Inv-loop2 μ-loop2
-element-copy-out-b-2 c = search needs
-
 lower-requires : tie.Need-lower-requires Inv-loop μ-loop Inv-loop2 μ-loop2
 lower-requires c κs =
     let p = c .before .before in
     let b = p .before .before .before .before .before .before .before .before in
     accepted b .task (p .loop2 .j) (omega arith)
-
-mul-of-3 : tie.Need-mul-of-3 Inv-loop μ-loop Inv-loop2 μ-loop2
-mul-of-3 c = search needs
-
-array-set-from-of-3 : tie.Need-array-set-from-of-3 Inv-loop μ-loop Inv-loop2 μ-loop2
-array-set-from-of-3 c = search needs
-
-raised-requires : tie.Need-raised-requires Inv-loop μ-loop Inv-loop2 μ-loop2
-raised-requires c κs = search needs
-
-add-j-2 : tie.Need-add-j-2 Inv-loop μ-loop Inv-loop2 μ-loop2
-add-j-2 c = search needs
-
-loop2-less : tie.Need-loop2-less Inv-loop μ-loop Inv-loop2 μ-loop2
-loop2-less c = search needs
 
 loop2-again : tie.Need-loop2-again Inv-loop μ-loop Inv-loop2 μ-loop2
 loop2-again c =
@@ -193,9 +118,6 @@ waiting-requires c κs =
     let i = b .args .i in
     (peaks-small (b .args .t1) i (p .loop2 .j) (p .loop2 .peaks) (accepted b) (omega arith) (p .loop2 .inv .4), accepted b .task i (b .pre .1))
 
-wide-requires : tie.Need-wide-requires Inv-loop μ-loop Inv-loop2 μ-loop2
-wide-requires c κs = search needs
-
 -- C + DB is small
 small : (c : tie.After-wide Inv-loop μ-loop Inv-loop2 μ-loop2) → c .wide .result + c .before .waiting .result ≤ 1_000_000_000_000
 small c =
@@ -204,9 +126,6 @@ small c =
 
 add-t51 : tie.Need-add-t51 Inv-loop μ-loop Inv-loop2 μ-loop2
 add-t51 c = omega (arith, small c)
-
-wide-requires-2 : tie.Need-wide-requires-2 Inv-loop μ-loop Inv-loop2 μ-loop2
-wide-requires-2 c κs = search needs
 
 returns : tie.Need-returns Inv-loop μ-loop Inv-loop2 μ-loop2
 returns c =
@@ -237,40 +156,40 @@ shares-of-spec =
     μ-loop2
     mul-a
     element-copy-out-a
-    add-short
+    (λ c. search needs)
     cast-short
-    used-by-requires
-    cast-t24
-    add-t25
+    (λ c κs. search needs)
+    (λ c. search needs)
+    (λ c. search needs)
     loop-holds
-    mul-b
-    element-copy-out-b
+    (λ c. search needs)
+    (λ c. search needs)
     upper-requires
-    mul-of
-    array-set-from-of
-    add-t28
-    cast-t35
-    ceilings-with-requires
-    add-l
-    loop-less
+    (λ c. search needs)
+    (λ c. search needs)
+    (λ c. search needs)
+    (λ c. search needs)
+    (λ c κs. search needs)
+    (λ c. search needs)
+    (λ c. search needs)
     loop-again
-    mul-of-2
-    array-set-from-of-2
-    ceilings-with-requires-2
-    high-requires
-    add-j
+    (λ c. search needs)
+    (λ c. search needs)
+    (λ c κs. search needs)
+    (λ c κs. search needs)
+    (λ c. search needs)
     loop2-holds
-    mul-b-2
-    element-copy-out-b-2
+    (λ c. search needs)
+    (λ c. search needs)
     lower-requires
-    mul-of-3
-    array-set-from-of-3
-    raised-requires
-    add-j-2
-    loop2-less
+    (λ c. search needs)
+    (λ c. search needs)
+    (λ c κs. search needs)
+    (λ c. search needs)
+    (λ c. search needs)
     loop2-again
     waiting-requires
-    wide-requires
+    (λ c κs. search needs)
     add-t51
-    wide-requires-2
+    (λ c κs. search needs)
     returns)

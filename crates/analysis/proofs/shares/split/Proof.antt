@@ -21,18 +21,6 @@ abbrev μ-loop : tie.MeasureT-loop
 loop-holds : tie.Need-loop-holds Inv-loop μ-loop
 loop-holds c = omega (arith, sum-none (markedOf (c .args .t1) (c .args .t2)), sum-none (totalOf (c .args .t2)))
 
-mul-p : tie.Need-mul-p Inv-loop μ-loop
-mul-p c = search needs
-
-element-copy-out-p : tie.Need-element-copy-out-p Inv-loop μ-loop
-element-copy-out-p c = search needs
-
-element-copy-out-on : tie.Need-element-copy-out-on Inv-loop μ-loop
-element-copy-out-on c = search needs
-
-only-requires : tie.Need-only-requires Inv-loop μ-loop
-only-requires c κs = search needs
-
 add-marked : tie.Need-add-marked Inv-loop μ-loop
 add-marked c =
     let p = c .before .before .before .before in
@@ -42,12 +30,6 @@ add-all : tie.Need-add-all Inv-loop μ-loop
 add-all c =
     let p = c .before .before .before .before .before in
     omega (arith, totals-most (p .before .args .t2) (p .loop .k) (p .before .pre) (omega arith))
-
-add-k : tie.Need-add-k Inv-loop μ-loop
-add-k c = search needs
-
-loop-less : tie.Need-loop-less Inv-loop μ-loop
-loop-less c = search needs
 
 loop-again : tie.Need-loop-again Inv-loop μ-loop
 loop-again c =
@@ -74,13 +56,13 @@ split-spec =
     Inv-loop
     μ-loop
     loop-holds
-    mul-p
-    element-copy-out-p
-    element-copy-out-on
-    only-requires
+    (λ c. search needs)
+    (λ c. search needs)
+    (λ c. search needs)
+    (λ c κs. search needs)
     add-marked
     add-all
-    add-k
-    loop-less
+    (λ c. search needs)
+    (λ c. search needs)
     loop-again
     returns)

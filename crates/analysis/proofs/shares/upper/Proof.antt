@@ -6,21 +6,6 @@ use Rattle.basics.specs.Choice.{pick}
 use Rattle.analysis.proofs.shares.upper.Statement.{statement}
 use Rattle.analysis.proofs.shares.upper.Tie as tie
 
-split-requires : tie.Need-split-requires
-split-requires c κs = search needs
-
-sub-other : tie.Need-sub-other
-sub-other c = search needs
-
-sub-free : tie.Need-sub-free
-sub-free c = search needs
-
-unless-requires : tie.Need-unless-requires
-unless-requires c κs = search needs
-
-unless-requires-2 : tie.Need-unless-requires-2
-unless-requires-2 c κs = search needs
-
 returns : tie.Need-returns
 returns c =
     let s = c .before .before .before .before .before .split .ensures in
@@ -36,4 +21,4 @@ returns c =
 pub upper-spec : {M : Type 1} → statement M
 upper-spec =
     tie.close
-    (tie.spec split-requires sub-other sub-free unless-requires unless-requires-2 returns)
+    (tie.spec (λ c κs. search needs) (λ c. search needs) (λ c. search needs) (λ c κs. search needs) (λ c κs. search needs) returns)

@@ -18,17 +18,8 @@ filled c =
     let w = c .before .before in
     count-filled (w .before .before .args .us / 1000) (w .width-of .ensures) (c .put-digits .ensures) (c .put-digits .kept .0)
 
-width-of-requires : tie.Need-width-of-requires
-width-of-requires c κs = search needs
-
 put-digits-requires : tie.Need-put-digits-requires
 put-digits-requires c κs = omega (arith, narrow (c .before))
-
-fraction-of-requires : tie.Need-fraction-of-requires
-fraction-of-requires c κs = search needs
-
-same-length : tie.Need-same-length
-same-length c = search needs
 
 returns : tie.Need-returns
 returns c = plain-filled _ _ _ (c .before .fraction-of .ensures .0) (c .if1 .taken) (filled (c .before .before .before .before))
@@ -38,9 +29,6 @@ sub-put-fraction c = omega (arith, narrow (c .before .before .before .before .be
 
 part-put-fraction-start : tie.Need-part-put-fraction-start
 part-put-fraction-start c = omega (arith, narrow (c .before .before .before .before .before .before))
-
-part-put-fraction-end : tie.Need-part-put-fraction-end
-part-put-fraction-end c = search needs
 
 put-fraction-requires : tie.Need-put-fraction-requires
 put-fraction-requires c κs =
@@ -53,9 +41,6 @@ add-result c = omega (arith, narrow (c .before .before .before .before .before .
 
 add-result-2 : tie.Need-add-result-2
 add-result-2 c = omega (arith, narrow (c .before .before .before .before .before .before .before .before .before .before))
-
-same-length-2 : tie.Need-same-length-2
-same-length-2 c = search needs
 
 returns-2 : tie.Need-returns-2
 returns-2 c =
@@ -71,16 +56,16 @@ pub build-time-spec : {M : Type 1} → statement M
 build-time-spec =
     tie.close
     (tie.spec
-    width-of-requires
+    (λ c κs. search needs)
     put-digits-requires
-    fraction-of-requires
-    same-length
+    (λ c κs. search needs)
+    (λ c. search needs)
     returns
     sub-put-fraction
     part-put-fraction-start
-    part-put-fraction-end
+    (λ c. search needs)
     put-fraction-requires
     add-result
     add-result-2
-    same-length-2
+    (λ c. search needs)
     returns-2)

@@ -5,11 +5,8 @@ use Rattle.field.proofs.TextLaws.{count-length}
 use Rattle.field.proofs.writing.count_len.Statement.{statement}
 use Rattle.field.proofs.writing.count_len.Tie as tie
 
-width-of-requires : tie.Need-width-of-requires
-width-of-requires c κs = search needs
-
 returns : tie.Need-returns
 returns c = c .width-of .ensures ∙ sym (count-length (c .before .args .n))
 
 pub count-len-spec : {M : Type 1} → statement M
-count-len-spec = tie.close (tie.spec width-of-requires returns)
+count-len-spec = tie.close (tie.spec (λ c κs. search needs) returns)

@@ -5,9 +5,6 @@ use borrow.Author.Needs.{needs}
 use Rattle.field.proofs.writing.fraction_of.Statement.{statement}
 use Rattle.field.proofs.writing.fraction_of.Tie as tie
 
-returns : tie.Need-returns
-returns c = search needs
-
 returns-2 : tie.Need-returns-2
 returns-2 c = (trim-one _ (c .if2 .taken) (c .before .if1 .left) (omega arith), omega arith)
 
@@ -18,4 +15,4 @@ returns-4 : tie.Need-returns-4
 returns-4 c = (trim-three _ (c .if3 .left), omega arith)
 
 pub fraction-of-spec : {M : Type 1} → statement M
-fraction-of-spec = tie.close (tie.spec returns returns-2 returns-3 returns-4)
+fraction-of-spec = tie.close (tie.spec (λ c. search needs) returns-2 returns-3 returns-4)

@@ -6,19 +6,10 @@ use Rattle.field.proofs.TextLaws.{count-length, count-filled, put-short
 use Rattle.field.proofs.writing.put_count.Statement.{statement}
 use Rattle.field.proofs.writing.put_count.Tie as tie
 
-width-of-requires : tie.Need-width-of-requires
-width-of-requires c κs = search needs
-
 returns : tie.Need-returns
 returns c =
     let a = c .before .before .before .args in
     put-short (countText (a .n)) (a .out .now) (c .before .width-of .ensures ∙ sym (count-length (a .n))) (c .if1 .taken)
-
-put-digits-requires : tie.Need-put-digits-requires
-put-digits-requires c κs = search needs
-
-same-length : tie.Need-same-length
-same-length c = search needs
 
 returns-2 : tie.Need-returns-2
 returns-2 c =
@@ -28,4 +19,4 @@ returns-2 c =
 
 pub put-count-spec : {M : Type 1} → statement M
 put-count-spec =
-    tie.close (tie.spec width-of-requires returns put-digits-requires same-length returns-2)
+    tie.close (tie.spec (λ c κs. search needs) returns (λ c κs. search needs) (λ c. search needs) returns-2)

@@ -17,17 +17,11 @@ filled c =
     let a = c .before .before .before .args in
     filled-part (filled-byte (filled-none (a .out .now)) 46 (omega arith)) (digitsOf (a .k) (a .x)) (omega arith) (sym (digits-length (a .k) (a .x))) (c .put-digits .kept .0) (c .put-digits .ensures)
 
-slice-write-out : tie.Need-slice-write-out
-slice-write-out c = search needs
-
 sub-put-digits : tie.Need-sub-put-digits
 sub-put-digits c = simp length-set (omega arith)
 
 part-put-digits-start : tie.Need-part-put-digits-start
 part-put-digits-start c = simp length-set (omega arith)
-
-part-put-digits-end : tie.Need-part-put-digits-end
-part-put-digits-end c = search needs
 
 put-digits-requires : tie.Need-put-digits-requires
 put-digits-requires c κs =
@@ -47,10 +41,10 @@ pub put-fraction-spec : {M : Type 1} → statement M
 put-fraction-spec =
     tie.close
     (tie.spec
-    slice-write-out
+    (λ c. search needs)
     sub-put-digits
     part-put-digits-start
-    part-put-digits-end
+    (λ c. search needs)
     put-digits-requires
     same-length
     returns)

@@ -12,12 +12,6 @@ returns c =
     let a = c .before .before .before .args in
     put-short (a .s .now) (a .out .now) refl (c .if1 .taken)
 
-put-bytes-requires : tie.Need-put-bytes-requires
-put-bytes-requires c κs = search needs
-
-same-length : tie.Need-same-length
-same-length c = search needs
-
 returns-2 : tie.Need-returns-2
 returns-2 c =
     let p = c .before .before in
@@ -25,4 +19,4 @@ returns-2 c =
     put-filled (filled-bytes {p = s} {a = length s} refl refl (p .put-bytes .kept .0) (p .put-bytes .ensures)) (p .before .before .if1 .left)
 
 pub put-text-spec : {M : Type 1} → statement M
-put-text-spec = tie.close (tie.spec returns put-bytes-requires same-length returns-2)
+put-text-spec = tie.close (tie.spec returns (λ c κs. search needs) (λ c. search needs) returns-2)

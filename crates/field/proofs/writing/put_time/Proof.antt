@@ -15,12 +15,6 @@ built c =
     let b = c .build-time in
     ap (take (b .result)) (b .ensures .1) ∙ take-at _ _ (b .result) (sym (b .ensures .0))
 
-slice-aggregate-build-time : tie.Need-slice-aggregate-build-time
-slice-aggregate-build-time c = search needs
-
-build-time-requires : tie.Need-build-time-requires
-build-time-requires c κs = search needs
-
 returns : tie.Need-returns
 returns c =
     let b = c .before .before in
@@ -40,9 +34,6 @@ slice-aggregate-put-bytes c =
 put-bytes-requires : tie.Need-put-bytes-requires
 put-bytes-requires c κs = omega (arith, ap length (built (c .before .before .before .before)))
 
-same-length : tie.Need-same-length
-same-length c = search needs
-
 returns-2 : tie.Need-returns-2
 returns-2 c =
     let p = c .before .before in
@@ -53,11 +44,11 @@ pub put-time-spec : {M : Type 1} → statement M
 put-time-spec =
     tie.close
     (tie.spec
-    slice-aggregate-build-time
-    build-time-requires
+    (λ c. search needs)
+    (λ c κs. search needs)
     returns
     array-share-prefix-scratch
     slice-aggregate-put-bytes
     put-bytes-requires
-    same-length
+    (λ c. search needs)
     returns-2)

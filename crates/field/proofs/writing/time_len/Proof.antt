@@ -6,12 +6,6 @@ use Rattle.field.proofs.TextLaws.{width-most, plain-length, point-lengt
 use Rattle.field.proofs.writing.time_len.Statement.{statement}
 use Rattle.field.proofs.writing.time_len.Tie as tie
 
-width-of-requires : tie.Need-width-of-requires
-width-of-requires c κs = search needs
-
-fraction-of-requires : tie.Need-fraction-of-requires
-fraction-of-requires c κs = search needs
-
 returns : tie.Need-returns
 returns c =
     let w = c .before .before in
@@ -31,4 +25,4 @@ returns-2 c =
 pub time-len-spec : {M : Type 1} → statement M
 time-len-spec =
     tie.close
-    (tie.spec width-of-requires fraction-of-requires returns add-result add-result-2 returns-2)
+    (tie.spec (λ c κs. search needs) (λ c κs. search needs) returns add-result add-result-2 returns-2)

@@ -5,25 +5,13 @@ use Rattle.listing.specs.Read.{pastAfter}
 use Rattle.listing.proofs.Past.after.Statement.{statement}
 use Rattle.listing.proofs.Past.after.Tie as tie
 
-enum-told : tie.Need-enum-told
-enum-told c = search needs
-
-enum-known-said : tie.Need-enum-known-said
-enum-known-said c = search needs
-
 add-t7 : tie.Need-add-t7
 unfolding pastAfter
 add-t7 c = omega (arith, rw (c .before .before .said .given .1) at (c .before .before .before .before .pre .0))
 
-enum-known-said-2 : tie.Need-enum-known-said-2
-enum-known-said-2 c = search needs
-
 add-t9 : tie.Need-add-t9
 unfolding pastAfter
 add-t9 c = omega (arith, rw (c .before .before .before .said2 .given .1) at (c .before .before .before .before .before .pre .1))
-
-enum-told-2 : tie.Need-enum-told-2
-enum-told-2 c = search needs
 
 returns : tie.Need-returns
 unfolding pastAfter
@@ -45,12 +33,12 @@ pub after-spec : {M : Type 1} → statement M
 after-spec =
     tie.close
     (tie.spec
-    enum-told
-    enum-known-said
+    (λ c. search needs)
+    (λ c. search needs)
     add-t7
-    enum-known-said-2
+    (λ c. search needs)
     add-t9
-    enum-told-2
+    (λ c. search needs)
     returns
     returns-2
     returns-3

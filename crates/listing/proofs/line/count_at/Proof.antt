@@ -15,24 +15,6 @@ returns : tie.Need-returns
 unfolding countField
 returns c = rw (drop-of-length-le _ (c .if1 .taken))
 
-sub-count : tie.Need-sub-count
-sub-count c = search needs
-
-part-count-start : tie.Need-part-count-start
-part-count-start c = search needs
-
-part-count-end : tie.Need-part-count-end
-part-count-end c = search needs
-
-count-requires : tie.Need-count-requires
-count-requires c κs = search needs
-
-enum-known-v : tie.Need-enum-known-v
-enum-known-v c = search needs
-
-enum-told : tie.Need-enum-told
-enum-told c = search needs
-
 -- what was read
 read : (c : tie.After-count)
     → c .count .result ≡ countField (drop (c .before .before .before .before .args .at) (c .before .before .before .before .args .line .now))
@@ -62,12 +44,12 @@ count-at-spec =
     tie.close
     (tie.spec
     returns
-    sub-count
-    part-count-start
-    part-count-end
-    count-requires
-    enum-known-v
-    enum-told
+    (λ c. search needs)
+    (λ c. search needs)
+    (λ c. search needs)
+    (λ c κs. search needs)
+    (λ c. search needs)
+    (λ c. search needs)
     returns-2
     add-t5
     add-t11

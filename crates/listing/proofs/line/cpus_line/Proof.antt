@@ -10,23 +10,11 @@ use Rattle.listing.proofs.line.cpus_line.Tie as tie
 m-at : (c : tie.Start) → Begins (c .args .line .now) 1 0 5
 m-at c = form-second (bytes "cpus") 0 _ (lit≤ tt) (c .pre)
 
-count-at-requires : tie.Need-count-at-requires
-count-at-requires c κs = search needs
-
-enum-known-m : tie.Need-enum-known-m
-enum-known-m c = search needs
-
-enum-told : tie.Need-enum-told
-enum-told c = search needs
-
 returns : tie.Need-returns
 unfolding cpusLine
 returns c =
     let b = c .before .before in
     rw (bad-field count-kind (m-at (b .before .before)) (b .count-at .ensures) (c .enum-told .given .1))
-
-cpus-of-requires : tie.Need-cpus-of-requires
-cpus-of-requires c κs = search needs
 
 returns-2 : tie.Need-returns-2
 unfolding cpusLine
@@ -38,4 +26,4 @@ returns-2 c =
 pub cpus-line-spec : {M : Type 1} → statement M
 cpus-line-spec =
     tie.close
-    (tie.spec count-at-requires enum-known-m enum-told returns cpus-of-requires returns-2)
+    (tie.spec (λ c κs. search needs) (λ c. search needs) (λ c. search needs) returns (λ c κs. search needs) returns-2)

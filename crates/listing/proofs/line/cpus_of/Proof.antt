@@ -5,9 +5,6 @@ use borrow.Author.Needs.{needs}
 use Rattle.listing.proofs.line.cpus_of.Statement.{statement}
 use Rattle.listing.proofs.line.cpus_of.Tie as tie
 
-in-range-requires : tie.Need-in-range-requires
-in-range-requires c κs = search needs
-
 returns : tie.Need-returns
 unfolding cpusLine
 returns c = simp (stops (c .before .in-range .ensures) (c .if1 .taken))
@@ -17,4 +14,4 @@ unfolding cpusLine
 returns-2 c = simp (passes (c .before .in-range .ensures) (c .if1 .left))
 
 pub cpus-of-spec : {M : Type 1} → statement M
-cpus-of-spec = tie.close (tie.spec in-range-requires returns returns-2)
+cpus-of-spec = tie.close (tie.spec (λ c κs. search needs) returns returns-2)

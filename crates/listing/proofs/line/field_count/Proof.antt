@@ -21,9 +21,6 @@ loop-holds c = (omega arith, omega arith, tally-start (c .before .args .line .no
 add-i : tie.Need-add-i Inv-loop μ-loop
 add-i c = omega arith
 
-ends-at-requires : tie.Need-ends-at-requires Inv-loop μ-loop
-ends-at-requires c κs = search needs
-
 returns : tie.Need-returns Inv-loop μ-loop
 returns c =
     let b = c .before .before in
@@ -79,7 +76,7 @@ field-count-spec =
     μ-loop
     loop-holds
     add-i
-    ends-at-requires
+    (λ c κs. search needs)
     returns
     add-n
     loop-less

@@ -7,11 +7,8 @@ use Rattle.listing.proofs.line.is_form.Tie as tie
 returns : tie.Need-returns
 returns c = rw (← c .before .before .before .pre, ne-eqb _ _ (c .if1 .taken))
 
-same-field-requires : tie.Need-same-field-requires
-same-field-requires c κs = search needs
-
 returns-2 : tie.Need-returns-2
 returns-2 c = rw (← c .before .before .before .before .pre, eq-eqb _ _ (c .before .if1 .left)) (c .same-field .ensures)
 
 pub is-form-spec : {M : Type 1} → statement M
-is-form-spec = tie.close (tie.spec returns same-field-requires returns-2)
+is-form-spec = tie.close (tie.spec returns (λ c κs. search needs) returns-2)

@@ -19,21 +19,12 @@ not-task : (c : tie.Else2) → let a = c .before .before .before .before .before
     (form (bytes "task") 4 (a .line .now) && ltb 1 (a .number)) ≡ false
 not-task c = sym (c .before .task-here .ensures) ∙ c .if2 .left
 
-field-count-requires : tie.Need-field-count-requires
-field-count-requires c κs = search needs
-
-cpus-here-requires : tie.Need-cpus-here-requires
-cpus-here-requires c κs = search needs
-
 cpus-line-requires : tie.Need-cpus-line-requires
 cpus-line-requires c κs = and-true (form (bytes "cpus") 2 _) _ (sym (c .before .cpus-here .ensures) ∙ c .if1 .taken) .0
 
 returns : tie.Need-returns
 unfolding lineSays
 returns c = rw (sym (c .before .before .cpus-here .ensures) ∙ c .before .if1 .taken) (c .cpus-line .ensures)
-
-task-here-requires : tie.Need-task-here-requires
-task-here-requires c κs = search needs
 
 task-line-requires : tie.Need-task-line-requires
 task-line-requires c κs = and-true (form (bytes "task") 4 _) _ (sym (c .before .task-here .ensures) ∙ c .if2 .taken) .0
@@ -43,9 +34,6 @@ unfolding lineSays
 returns-2 c =
     let b = c .before .before in
     rw (not-cpus (b .before), sym (b .task-here .ensures) ∙ c .before .if2 .taken) (c .task-line .ensures)
-
-use-here-requires : tie.Need-use-here-requires
-use-here-requires c κs = search needs
 
 use-line-requires : tie.Need-use-line-requires
 use-line-requires c κs = and-true (form (bytes "use") 5 _) _ (sym (c .before .use-here .ensures) ∙ c .if3 .taken) .0
@@ -66,14 +54,14 @@ pub line-of-spec : {M : Type 1} → statement M
 line-of-spec =
     tie.close
     (tie.spec
-    field-count-requires
-    cpus-here-requires
+    (λ c κs. search needs)
+    (λ c κs. search needs)
     cpus-line-requires
     returns
-    task-here-requires
+    (λ c κs. search needs)
     task-line-requires
     returns-2
-    use-here-requires
+    (λ c κs. search needs)
     use-line-requires
     returns-3
     returns-4)

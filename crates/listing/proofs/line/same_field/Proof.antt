@@ -21,12 +21,6 @@ abbrev μ-loop : tie.MeasureT-loop
 loop-holds : tie.Need-loop-holds Inv-loop μ-loop
 loop-holds c = (omega arith, refl)
 
-ends-at-requires : tie.Need-ends-at-requires Inv-loop μ-loop
-ends-at-requires c κs = search needs
-
-ends-at-requires-2 : tie.Need-ends-at-requires-2 Inv-loop μ-loop
-ends-at-requires-2 c κs = search needs
-
 -- in the loop the field of s goes on, and past the first branch that of w
 more-s : (c : tie.Then1 Inv-loop μ-loop) → ends (drop (c .before .before .loop .i) (c .before .before .before .before .before .args .s .now)) ≡ false
 more-s c = stops (c .before .ends-at .ensures) (c .if1 .taken)
@@ -72,9 +66,6 @@ loop-again c =
     let a = at .before .before .before .args in
     (omega (arith, in-s t), sym (same-more (a .s .now) (a .w .now) (at .loop .i) (more-s t) (more-w e) (c .if3 .left)) ∙ at .loop .inv .1)
 
-ends-at-requires-3 : tie.Need-ends-at-requires-3 Inv-loop μ-loop
-ends-at-requires-3 c κs = search needs
-
 returns-3 : tie.Need-returns-3 Inv-loop μ-loop
 returns-3 c =
     let at = c .before .before .before in
@@ -88,8 +79,8 @@ same-field-spec =
     Inv-loop
     μ-loop
     loop-holds
-    ends-at-requires
-    ends-at-requires-2
+    (λ c κs. search needs)
+    (λ c κs. search needs)
     returns
     shared-slice-read-if3
     shared-slice-read-if3-2
@@ -97,5 +88,5 @@ same-field-spec =
     add-i
     loop-less
     loop-again
-    ends-at-requires-3
+    (λ c κs. search needs)
     returns-3)

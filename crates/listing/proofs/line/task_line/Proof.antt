@@ -25,15 +25,6 @@ deadline : (c : tie.After-deadline)
     → States timeField (c .before .before .before .before .before .before .before .before .before .before .before .before .args .line .now) 3 (c .deadline .given .0 .0)
 deadline c = states time-kind (run (c .before .before .before .before) .1) (c .before .before .time-at3 .ensures) (c .deadline .given .1)
 
-time-at-requires : tie.Need-time-at-requires
-time-at-requires c κs = search needs
-
-enum-known-period : tie.Need-enum-known-period
-enum-known-period c = search needs
-
-enum-told : tie.Need-enum-told
-enum-told c = search needs
-
 returns : tie.Need-returns
 unfolding taskLine
 returns c =
@@ -42,12 +33,6 @@ returns c =
 
 time-at-requires-2 : tie.Need-time-at-requires-2
 time-at-requires-2 c κs = omega (arith, period (c .before) .1 .near)
-
-enum-known-run : tie.Need-enum-known-run
-enum-known-run c = search needs
-
-enum-told-2 : tie.Need-enum-told-2
-enum-told-2 c = search needs
 
 returns-2 : tie.Need-returns-2
 unfolding taskLine
@@ -59,21 +44,12 @@ returns-2 c =
 time-at-requires-3 : tie.Need-time-at-requires-3
 time-at-requires-3 c κs = omega (arith, run (c .before) .1 .near)
 
-enum-known-deadline : tie.Need-enum-known-deadline
-enum-known-deadline c = search needs
-
-enum-told-3 : tie.Need-enum-told-3
-enum-told-3 c = search needs
-
 returns-3 : tie.Need-returns-3
 unfolding taskLine
 returns-3 c =
     let b = c .before .before in
     let r = b .before .before in
     rw (period (r .before .before .before .before) .0 .says, run r .0 .says, bad-field time-kind (run r .1) (b .time-at3 .ensures) (c .enum-told3 .given .1))
-
-task-of-requires : tie.Need-task-of-requires
-task-of-requires c κs = search needs
 
 returns-4 : tie.Need-returns-4
 unfolding taskLine
@@ -86,17 +62,17 @@ pub task-line-spec : {M : Type 1} → statement M
 task-line-spec =
     tie.close
     (tie.spec
-    time-at-requires
-    enum-known-period
-    enum-told
+    (λ c κs. search needs)
+    (λ c. search needs)
+    (λ c. search needs)
     returns
     time-at-requires-2
-    enum-known-run
-    enum-told-2
+    (λ c. search needs)
+    (λ c. search needs)
     returns-2
     time-at-requires-3
-    enum-known-deadline
-    enum-told-3
+    (λ c. search needs)
+    (λ c. search needs)
     returns-3
-    task-of-requires
+    (λ c κs. search needs)
     returns-4)

@@ -10,20 +10,11 @@ returns : tie.Need-returns
 unfolding taskLine
 returns c = simp (le-ltb _ _ (c .if1 .taken))
 
-times-requires : tie.Need-times-requires
-times-requires c κs = search needs
-
-enum-known-r : tie.Need-enum-known-r
-enum-known-r c = search needs
-
 returns-2 : tie.Need-returns-2
 unfolding taskLine
 returns-2 c =
     let b = c .before .before .before in
     simp (lt-ltb _ _ (b .before .if1 .left), sym (b .times .ensures) ∙ c .before .r .given .1)
-
-enum-told : tie.Need-enum-told
-enum-told c = search needs
 
 returns-3 : tie.Need-returns-3
 unfolding taskLine
@@ -33,4 +24,4 @@ returns-3 c =
 
 pub task-of-spec : {M : Type 1} → statement M
 task-of-spec =
-    tie.close (tie.spec returns times-requires enum-known-r returns-2 enum-told returns-3)
+    tie.close (tie.spec returns (λ c κs. search needs) (λ c. search needs) returns-2 (λ c. search needs) returns-3)

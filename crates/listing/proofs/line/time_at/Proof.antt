@@ -15,24 +15,6 @@ returns : tie.Need-returns
 unfolding timeField
 returns c = rw (drop-of-length-le _ (c .if1 .taken))
 
-sub-time : tie.Need-sub-time
-sub-time c = search needs
-
-part-time-start : tie.Need-part-time-start
-part-time-start c = search needs
-
-part-time-end : tie.Need-part-time-end
-part-time-end c = search needs
-
-time-requires : tie.Need-time-requires
-time-requires c κs = search needs
-
-enum-known-v : tie.Need-enum-known-v
-enum-known-v c = search needs
-
-enum-told : tie.Need-enum-told
-enum-told c = search needs
-
 -- what was read
 read : (c : tie.After-time)
     → c .time .result ≡ timeField (drop (c .before .before .before .before .args .at) (c .before .before .before .before .args .line .now))
@@ -62,12 +44,12 @@ time-at-spec =
     tie.close
     (tie.spec
     returns
-    sub-time
-    part-time-start
-    part-time-end
-    time-requires
-    enum-known-v
-    enum-told
+    (λ c. search needs)
+    (λ c. search needs)
+    (λ c. search needs)
+    (λ c κs. search needs)
+    (λ c. search needs)
+    (λ c. search needs)
     returns-2
     add-t5
     add-t11

@@ -29,15 +29,6 @@ total : (c : tie.After-total)
     → States timeField (c .before .before .before .before .before .before .before .before .before .before .before .before .before .before .before .before .args .line .now) 4 (c .total .given .0 .0)
 total c = states time-kind (longest (c .before .before .before .before) .1) (c .before .before .time-at2 .ensures) (c .total .given .1)
 
-count-at-requires : tie.Need-count-at-requires
-count-at-requires c κs = search needs
-
-enum-known-k : tie.Need-enum-known-k
-enum-known-k c = search needs
-
-enum-told : tie.Need-enum-told
-enum-told c = search needs
-
 returns : tie.Need-returns
 unfolding useLine
 returns c =
@@ -46,12 +37,6 @@ returns c =
 
 count-at-requires-2 : tie.Need-count-at-requires-2
 count-at-requires-2 c κs = omega (arith, k (c .before) .1 .near)
-
-enum-known-requests : tie.Need-enum-known-requests
-enum-known-requests c = search needs
-
-enum-told-2 : tie.Need-enum-told-2
-enum-told-2 c = search needs
 
 returns-2 : tie.Need-returns-2
 unfolding useLine
@@ -63,12 +48,6 @@ returns-2 c =
 time-at-requires : tie.Need-time-at-requires
 time-at-requires c κs = omega (arith, requests (c .before) .1 .near)
 
-enum-known-longest : tie.Need-enum-known-longest
-enum-known-longest c = search needs
-
-enum-told-3 : tie.Need-enum-told-3
-enum-told-3 c = search needs
-
 returns-3 : tie.Need-returns-3
 unfolding useLine
 returns-3 c =
@@ -79,12 +58,6 @@ returns-3 c =
 time-at-requires-2 : tie.Need-time-at-requires-2
 time-at-requires-2 c κs = omega (arith, longest (c .before) .1 .near)
 
-enum-known-total : tie.Need-enum-known-total
-enum-known-total c = search needs
-
-enum-told-4 : tie.Need-enum-told-4
-enum-told-4 c = search needs
-
 returns-4 : tie.Need-returns-4
 unfolding useLine
 returns-4 c =
@@ -92,9 +65,6 @@ returns-4 c =
     let l = b .before .before in
     let r = l .before .before .before .before in
     rw (k (r .before .before .before .before) .0 .says, requests r .0 .says, longest l .0 .says, bad-field time-kind (longest l .1) (b .time-at2 .ensures) (c .enum-told4 .given .1))
-
-use-of-requires : tie.Need-use-of-requires
-use-of-requires c κs = search needs
 
 returns-5 : tie.Need-returns-5
 unfolding useLine
@@ -108,21 +78,21 @@ pub use-line-spec : {M : Type 1} → statement M
 use-line-spec =
     tie.close
     (tie.spec
-    count-at-requires
-    enum-known-k
-    enum-told
+    (λ c κs. search needs)
+    (λ c. search needs)
+    (λ c. search needs)
     returns
     count-at-requires-2
-    enum-known-requests
-    enum-told-2
+    (λ c. search needs)
+    (λ c. search needs)
     returns-2
     time-at-requires
-    enum-known-longest
-    enum-told-3
+    (λ c. search needs)
+    (λ c. search needs)
     returns-3
     time-at-requires-2
-    enum-known-total
-    enum-told-4
+    (λ c. search needs)
+    (λ c. search needs)
     returns-4
-    use-of-requires
+    (λ c κs. search needs)
     returns-5)

@@ -10,15 +10,9 @@ use borrow.Author.Needs.{needs}
 use Rattle.listing.proofs.line.use_of.Statement.{statement}
 use Rattle.listing.proofs.line.use_of.Tie as tie
 
-in-range-requires : tie.Need-in-range-requires
-in-range-requires c κs = search needs
-
 returns : tie.Need-returns
 unfolding useLine
 returns c = simp (stops (c .before .in-range .ensures) (c .if1 .taken))
-
-used-in-range-requires : tie.Need-used-in-range-requires
-used-in-range-requires c κs = search needs
 
 returns-2 : tie.Need-returns-2
 unfolding useLine
@@ -36,18 +30,6 @@ returns-3 : tie.Need-returns-3
 unfolding useLine
 returns-3 c = rw (in-use (c .before .before .before), le-ltb _ _ (c .if3 .taken))
 
-cast-totals-fit : tie.Need-cast-totals-fit
-cast-totals-fit c = search needs
-
-cast-totals-fit-2 : tie.Need-cast-totals-fit-2
-cast-totals-fit-2 c = search needs
-
-add-totals-fit : tie.Need-add-totals-fit
-add-totals-fit c = search needs
-
-totals-fit-requires : tie.Need-totals-fit-requires
-totals-fit-requires c κs = search needs
-
 returns-4 : tie.Need-returns-4
 unfolding useLine
 returns-4 c =
@@ -64,14 +46,14 @@ pub use-of-spec : {M : Type 1} → statement M
 use-of-spec =
     tie.close
     (tie.spec
-    in-range-requires
+    (λ c κs. search needs)
     returns
-    used-in-range-requires
+    (λ c κs. search needs)
     returns-2
     returns-3
-    cast-totals-fit
-    cast-totals-fit-2
-    add-totals-fit
-    totals-fit-requires
+    (λ c. search needs)
+    (λ c. search needs)
+    (λ c. search needs)
+    (λ c κs. search needs)
     returns-4
     returns-5)

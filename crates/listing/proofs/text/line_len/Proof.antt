@@ -12,20 +12,11 @@ use Rattle.listing.proofs.text.line_len.Tie as tie
 short : (s : tie.Start) → 8 + length (timeText (s .args .x .period)) + length (timeText (s .args .x .run)) + length (timeText (s .args .x .deadline)) ≤ 41
 short s = omega (arith, times-length (s .args .x), times-most (s .args .x) (omega arith) (omega arith) (omega arith))
 
-time-len-requires : tie.Need-time-len-requires
-time-len-requires c κs = search needs
-
 add-result : tie.Need-add-result
 add-result c = omega (arith, short (c .before))
 
-time-len-requires-2 : tie.Need-time-len-requires-2
-time-len-requires-2 c κs = search needs
-
 add-result-2 : tie.Need-add-result-2
 add-result-2 c = omega (arith, short (c .before .before))
-
-time-len-requires-3 : tie.Need-time-len-requires-3
-time-len-requires-3 c κs = search needs
 
 add-result-3 : tie.Need-add-result-3
 add-result-3 c = omega (arith, short (c .before .before .before))
@@ -40,10 +31,10 @@ pub line-len-spec : {M : Type 1} → statement M
 line-len-spec =
     tie.close
     (tie.spec
-    time-len-requires
+    (λ c κs. search needs)
     add-result
-    time-len-requires-2
+    (λ c κs. search needs)
     add-result-2
-    time-len-requires-3
+    (λ c κs. search needs)
     add-result-3
     returns)

@@ -16,26 +16,8 @@ filled c =
     let s = p .before .before .before .before in
     filled-put (filled-here (s .args .out .now) (s .args .at) (omega arith)) (s .args .s .now) (s .pre) (p .put-text .ensures .0) (c .length .ensures) (p .put-text .kept .0) (p .put-text .ensures .1)
 
-sub-put-text : tie.Need-sub-put-text
-sub-put-text c = search needs
-
-part-put-text-start : tie.Need-part-put-text-start
-part-put-text-start c = search needs
-
-part-put-text-end : tie.Need-part-put-text-end
-part-put-text-end c = search needs
-
-put-text-requires : tie.Need-put-text-requires
-put-text-requires c κs = search needs
-
-length-requires : tie.Need-length-requires
-length-requires c κs = search needs
-
 add-result : tie.Need-add-result
 add-result c = omega (arith, filled-within (filled c))
-
-same-length : tie.Need-same-length
-same-length c = search needs
 
 returns : tie.Need-returns
 returns c = put-is _ _ _ (omega arith) (filled c)
@@ -44,11 +26,11 @@ pub put-spec : {M : Type 1} → statement M
 put-spec =
     tie.close
     (tie.spec
-    sub-put-text
-    part-put-text-start
-    part-put-text-end
-    put-text-requires
-    length-requires
+    (λ c. search needs)
+    (λ c. search needs)
+    (λ c. search needs)
+    (λ c κs. search needs)
+    (λ c κs. search needs)
     add-result
-    same-length
+    (λ c. search needs)
     returns)

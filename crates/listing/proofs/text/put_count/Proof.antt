@@ -17,26 +17,11 @@ filled c =
     let s = p .before .before .before in
     filled-field (s .args .out .now) (s .args .at) (countText (s .args .n)) (s .pre) (p .put-count .ensures .0) (c .length .ensures) (p .put-count .kept .0) (p .put-count .ensures .1)
 
-slice-write-out : tie.Need-slice-write-out
-slice-write-out c = search needs
-
-add-rest : tie.Need-add-rest
-add-rest c = search needs
-
 sub-put-count : tie.Need-sub-put-count
 sub-put-count c = simp length-set (omega arith)
 
 part-put-count-start : tie.Need-part-put-count-start
 part-put-count-start c = simp length-set (omega arith)
-
-part-put-count-end : tie.Need-part-put-count-end
-part-put-count-end c = search needs
-
-put-count-requires : tie.Need-put-count-requires
-put-count-requires c κs = search needs
-
-length-requires : tie.Need-length-requires
-length-requires c κs = search needs
 
 add-result : tie.Need-add-result
 add-result c = omega (arith, filled-within (filled c))
@@ -51,13 +36,13 @@ pub put-count-spec : {M : Type 1} → statement M
 put-count-spec =
     tie.close
     (tie.spec
-    slice-write-out
-    add-rest
+    (λ c. search needs)
+    (λ c. search needs)
     sub-put-count
     part-put-count-start
-    part-put-count-end
-    put-count-requires
-    length-requires
+    (λ c. search needs)
+    (λ c κs. search needs)
+    (λ c κs. search needs)
     add-result
     same-length
     returns)

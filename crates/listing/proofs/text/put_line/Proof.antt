@@ -10,12 +10,6 @@ use borrow.Author.Needs.{needs}
 use Rattle.listing.proofs.text.put_line.Statement.{statement}
 use Rattle.listing.proofs.text.put_line.Tie as tie
 
-slice-aggregate-put : tie.Need-slice-aggregate-put
-slice-aggregate-put c = search needs
-
-put-requires : tie.Need-put-requires
-put-requires c κs = search needs
-
 put-time-requires : tie.Need-put-time-requires
 put-time-requires c κs = omega (arith, times-length (c .before .before .before .before .before .before .before .args .x))
 
@@ -25,14 +19,8 @@ put-time-requires-2 c κs = omega (arith, times-length (c .before .before .befor
 put-time-requires-3 : tie.Need-put-time-requires-3
 put-time-requires-3 c κs = omega (arith, times-length (c .before .before .before .before .before .before .before .before .before .before .before .before .before .before .before .args .x))
 
-slice-aggregate-put-2 : tie.Need-slice-aggregate-put-2
-slice-aggregate-put-2 c = search needs
-
 put-requires-2 : tie.Need-put-requires-2
 put-requires-2 c κs = omega (arith, times-length (c .before .before .before .before .before .before .before .before .before .before .before .before .before .before .before .before .before .before .before .before .args .x))
-
-same-length : tie.Need-same-length
-same-length c = search needs
 
 returns : tie.Need-returns
 returns c =
@@ -52,12 +40,12 @@ pub put-line-spec : {M : Type 1} → statement M
 put-line-spec =
     tie.close
     (tie.spec
-    slice-aggregate-put
-    put-requires
+    (λ c. search needs)
+    (λ c κs. search needs)
     put-time-requires
     put-time-requires-2
     put-time-requires-3
-    slice-aggregate-put-2
+    (λ c. search needs)
     put-requires-2
-    same-length
+    (λ c. search needs)
     returns)

@@ -9,19 +9,10 @@ returns c =
     let a = c .before .before .before .args in
     rw (pair-unused (a .k) (a .p) (c .if1 .taken)) (search needs)
 
-add-t7 : tie.Need-add-t7
-add-t7 c = search needs
-
-cast-t8 : tie.Need-cast-t8
-cast-t8 c = search needs
-
 put-use-requires : tie.Need-put-use-requires
 put-use-requires c κs =
     let s = c .before .before .before .before in
     rw (pair-used (s .args .k) (s .args .p) (c .before .if1 .left)) at (s .pre .1)
-
-same-length : tie.Need-same-length
-same-length c = search needs
 
 returns-2 : tie.Need-returns-2
 returns-2 c =
@@ -30,4 +21,4 @@ returns-2 c =
     rw (pair-used (a .k) (a .p) (u .before .before .if1 .left)) (u .put-use .ensures)
 
 pub put-pair-spec : {M : Type 1} → statement M
-put-pair-spec = tie.close (tie.spec returns add-t7 cast-t8 put-use-requires same-length returns-2)
+put-pair-spec = tie.close (tie.spec returns (λ c. search needs) (λ c. search needs) put-use-requires (λ c. search needs) returns-2)

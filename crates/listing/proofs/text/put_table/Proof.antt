@@ -54,17 +54,11 @@ room c =
     let s = start l in
     next-room (cpusText (s .args .t2)) (linesOf (s .args .t2)) (l .loop .i) (filled l) (s .args .t2 .n) (c .before .loop-test .taken) (s .pre .1)
 
-slice-aggregate-put : tie.Need-slice-aggregate-put Inv-loop μ-loop
-slice-aggregate-put c = search needs
-
 put-requires : tie.Need-put-requires Inv-loop μ-loop
 put-requires c κs = omega (arith, first-room (c .before .before .before))
 
 put-count-requires : tie.Need-put-count-requires Inv-loop μ-loop
 put-count-requires c κs = omega (arith, first-room (c .before .before .before .before .before .before .before))
-
-slice-aggregate-put-2 : tie.Need-slice-aggregate-put-2 Inv-loop μ-loop
-slice-aggregate-put-2 c = search needs
 
 put-requires-2 : tie.Need-put-requires-2 Inv-loop μ-loop
 put-requires-2 c κs = omega (arith, first-room (c .before .before .before .before .before .before .before .before .before .before .before .before))
@@ -86,9 +80,6 @@ sub-put-task c = omega (arith, room c)
 part-put-task-start : tie.Need-part-put-task-start Inv-loop μ-loop
 part-put-task-start c = omega (arith, room c)
 
-part-put-task-end : tie.Need-part-put-task-end Inv-loop μ-loop
-part-put-task-end c = search needs
-
 put-task-requires : tie.Need-put-task-requires Inv-loop μ-loop
 put-task-requires c κs =
     let l = c .before .before .before .loop in
@@ -98,12 +89,6 @@ add-at : tie.Need-add-at Inv-loop μ-loop
 add-at c =
     let k = c .before .before .before .before in
     omega (arith, room k, filled (k .before .before) .kept, start (k .before .before) .good .0)
-
-add-i : tie.Need-add-i Inv-loop μ-loop
-add-i c = search needs
-
-loop-less : tie.Need-loop-less Inv-loop μ-loop
-loop-less c = search needs
 
 loop-again : tie.Need-loop-again Inv-loop μ-loop
 loop-again c =
@@ -128,21 +113,21 @@ put-table-spec =
     (tie.spec
     Inv-loop
     μ-loop
-    slice-aggregate-put
+    (λ c. search needs)
     put-requires
     put-count-requires
-    slice-aggregate-put-2
+    (λ c. search needs)
     put-requires-2
     loop-holds
     mul-x
     element-copy-out-x
     sub-put-task
     part-put-task-start
-    part-put-task-end
+    (λ c. search needs)
     put-task-requires
     add-at
-    add-i
-    loop-less
+    (λ c. search needs)
+    (λ c. search needs)
     loop-again
     same-length
     returns)

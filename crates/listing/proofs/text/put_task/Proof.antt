@@ -45,20 +45,11 @@ loop-holds c =
     let x = c .before .before .before .before .before .args .t2 in
     (omega arith, λ o q. filled-first (timesText x) (pairText x) q)
 
-mul-p : tie.Need-mul-p Inv-loop μ-loop
-mul-p c = search needs
-
-element-copy-out-p : tie.Need-element-copy-out-p Inv-loop μ-loop
-element-copy-out-p c = search needs
-
 sub-put-pair : tie.Need-sub-put-pair Inv-loop μ-loop
 sub-put-pair c = omega (arith, room c)
 
 part-put-pair-start : tie.Need-part-put-pair-start Inv-loop μ-loop
 part-put-pair-start c = omega (arith, room c)
-
-part-put-pair-end : tie.Need-part-put-pair-end Inv-loop μ-loop
-part-put-pair-end c = search needs
 
 put-pair-requires : tie.Need-put-pair-requires Inv-loop μ-loop
 unfolding pairText
@@ -71,12 +62,6 @@ unfolding pairText
 add-at c =
     let k = c .before .before .before .before in
     omega (arith, room k, filled (k .before .before) .kept)
-
-add-k : tie.Need-add-k Inv-loop μ-loop
-add-k c = search needs
-
-loop-less : tie.Need-loop-less Inv-loop μ-loop
-loop-less c = search needs
 
 loop-again : tie.Need-loop-again Inv-loop μ-loop
 unfolding pairText
@@ -103,15 +88,15 @@ put-task-spec =
     μ-loop
     put-line-requires
     loop-holds
-    mul-p
-    element-copy-out-p
+    (λ c. search needs)
+    (λ c. search needs)
     sub-put-pair
     part-put-pair-start
-    part-put-pair-end
+    (λ c. search needs)
     put-pair-requires
     add-at
-    add-k
-    loop-less
+    (λ c. search needs)
+    (λ c. search needs)
     loop-again
     same-length
     returns)

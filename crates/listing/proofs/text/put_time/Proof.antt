@@ -17,26 +17,11 @@ filled c =
     let s = p .before .before .before in
     filled-field (s .args .out .now) (s .args .at) (timeText (s .args .us)) (s .pre) (p .put-time .ensures .0) (c .length .ensures) (p .put-time .kept .0) (p .put-time .ensures .1)
 
-slice-write-out : tie.Need-slice-write-out
-slice-write-out c = search needs
-
-add-rest : tie.Need-add-rest
-add-rest c = search needs
-
 sub-put-time : tie.Need-sub-put-time
 sub-put-time c = simp length-set (omega arith)
 
 part-put-time-start : tie.Need-part-put-time-start
 part-put-time-start c = simp length-set (omega arith)
-
-part-put-time-end : tie.Need-part-put-time-end
-part-put-time-end c = search needs
-
-put-time-requires : tie.Need-put-time-requires
-put-time-requires c κs = search needs
-
-length-requires : tie.Need-length-requires
-length-requires c κs = search needs
 
 add-result : tie.Need-add-result
 add-result c = omega (arith, filled-within (filled c))
@@ -51,13 +36,13 @@ pub put-time-spec : {M : Type 1} → statement M
 put-time-spec =
     tie.close
     (tie.spec
-    slice-write-out
-    add-rest
+    (λ c. search needs)
+    (λ c. search needs)
     sub-put-time
     part-put-time-start
-    part-put-time-end
-    put-time-requires
-    length-requires
+    (λ c. search needs)
+    (λ c κs. search needs)
+    (λ c κs. search needs)
     add-result
     same-length
     returns)

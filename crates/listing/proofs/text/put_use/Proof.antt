@@ -10,9 +10,6 @@ use borrow.Author.Needs.{needs}
 use Rattle.listing.proofs.text.put_use.Statement.{statement}
 use Rattle.listing.proofs.text.put_use.Tie as tie
 
-slice-aggregate-put : tie.Need-slice-aggregate-put
-slice-aggregate-put c = search needs
-
 put-requires : tie.Need-put-requires
 put-requires c κs = omega (arith, use-length (c .before .before .before .args .k .0) (c .before .before .before .args .p))
 
@@ -28,14 +25,8 @@ put-time-requires c κs = omega (arith, use-length (c .before .before .before .b
 put-time-requires-2 : tie.Need-put-time-requires-2
 put-time-requires-2 c κs = omega (arith, use-length (c .before .before .before .before .before .before .before .before .before .before .before .before .before .before .before .before .before .before .before .args .k .0) (c .before .before .before .before .before .before .before .before .before .before .before .before .before .before .before .before .before .before .before .args .p))
 
-slice-aggregate-put-2 : tie.Need-slice-aggregate-put-2
-slice-aggregate-put-2 c = search needs
-
 put-requires-2 : tie.Need-put-requires-2
 put-requires-2 c κs = omega (arith, use-length (c .before .before .before .before .before .before .before .before .before .before .before .before .before .before .before .before .before .before .before .before .before .before .before .before .args .k .0) (c .before .before .before .before .before .before .before .before .before .before .before .before .before .before .before .before .before .before .before .before .before .before .before .before .args .p))
-
-same-length : tie.Need-same-length
-same-length c = search needs
 
 returns : tie.Need-returns
 unfolding useText
@@ -58,13 +49,13 @@ pub put-use-spec : {M : Type 1} → statement M
 put-use-spec =
     tie.close
     (tie.spec
-    slice-aggregate-put
+    (λ c. search needs)
     put-requires
     put-count-requires
     put-count-requires-2
     put-time-requires
     put-time-requires-2
-    slice-aggregate-put-2
+    (λ c. search needs)
     put-requires-2
-    same-length
+    (λ c. search needs)
     returns)

@@ -25,9 +25,6 @@ few s = fine-accepted (s .args .t1) (s .pre) .tasks-most
 narrow : (c : tie.After-count-len Inv-loop μ-loop) → c .count-len .result ≤ 10
 narrow c = let m = c .before .args .t1 .cpus in omega (arith, count-length m, width-most m)
 
-count-len-requires : tie.Need-count-len-requires Inv-loop μ-loop
-count-len-requires c κs = search needs
-
 add-sum : tie.Need-add-sum Inv-loop μ-loop
 add-sum c = omega (arith, narrow c)
 
@@ -42,17 +39,8 @@ mul-x c = omega (arith, few (c .before .before .before))
 element-copy-out-x : tie.Need-element-copy-out-x Inv-loop μ-loop
 element-copy-out-x c = omega (arith, few (c .before .before .before))
 
-task-len-requires : tie.Need-task-len-requires Inv-loop μ-loop
-task-len-requires c κs = search needs
-
 add-sum-2 : tie.Need-add-sum-2 Inv-loop μ-loop
 add-sum-2 c = omega (arith, few (c .before .before .before .before .before))
-
-add-i : tie.Need-add-i Inv-loop μ-loop
-add-i c = search needs
-
-loop-less : tie.Need-loop-less Inv-loop μ-loop
-loop-less c = search needs
 
 loop-again : tie.Need-loop-again Inv-loop μ-loop
 loop-again c =
@@ -73,14 +61,14 @@ table-len-spec =
     (tie.spec
     Inv-loop
     μ-loop
-    count-len-requires
+    (λ c κs. search needs)
     add-sum
     loop-holds
     mul-x
     element-copy-out-x
-    task-len-requires
+    (λ c κs. search needs)
     add-sum-2
-    add-i
-    loop-less
+    (λ c. search needs)
+    (λ c. search needs)
     loop-again
     returns)

@@ -17,31 +17,10 @@ Inv-loop x sum₀ k₀ sum k = (k ≤ 16) × (sum ≤ 41 + k * 50) × (sum ≡ l
 abbrev μ-loop : tie.MeasureT-loop
 μ-loop x sum₀ k₀ sum k = 16 - k
 
-line-len-requires : tie.Need-line-len-requires Inv-loop μ-loop
-line-len-requires c κs = search needs
-
 loop-holds : tie.Need-loop-holds Inv-loop μ-loop
 loop-holds c =
     let x = c .before .args .t1 in
     (omega arith, omega arith, c .line-len .ensures .0 ∙ ap length (sym (none-yet (timesText x) (pairText x))))
-
-mul-p : tie.Need-mul-p Inv-loop μ-loop
-mul-p c = search needs
-
-element-copy-out-p : tie.Need-element-copy-out-p Inv-loop μ-loop
-element-copy-out-p c = search needs
-
-pair-len-requires : tie.Need-pair-len-requires Inv-loop μ-loop
-pair-len-requires c κs = search needs
-
-add-sum : tie.Need-add-sum Inv-loop μ-loop
-add-sum c = search needs
-
-add-k : tie.Need-add-k Inv-loop μ-loop
-add-k c = search needs
-
-loop-less : tie.Need-loop-less Inv-loop μ-loop
-loop-less c = search needs
 
 loop-again : tie.Need-loop-again Inv-loop μ-loop
 unfolding pairText
@@ -63,13 +42,13 @@ task-len-spec =
     (tie.spec
     Inv-loop
     μ-loop
-    line-len-requires
+    (λ c κs. search needs)
     loop-holds
-    mul-p
-    element-copy-out-p
-    pair-len-requires
-    add-sum
-    add-k
-    loop-less
+    (λ c. search needs)
+    (λ c. search needs)
+    (λ c κs. search needs)
+    (λ c. search needs)
+    (λ c. search needs)
+    (λ c. search needs)
     loop-again
     returns)

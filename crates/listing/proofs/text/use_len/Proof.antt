@@ -12,26 +12,14 @@ use Rattle.listing.proofs.text.use_len.Tie as tie
 short : (s : tie.Start) → 8 + length (countText (s .args .k .0)) + length (countText (s .args .p .requests)) + length (timeText (s .args .p .longest)) + length (timeText (s .args .p .total)) ≤ 50
 short s = omega (arith, use-length (s .args .k .0) (s .args .p), use-most (s .args .k .0) (s .args .p) (omega arith) (omega arith))
 
-count-len-requires : tie.Need-count-len-requires
-count-len-requires c κs = search needs
-
 add-result : tie.Need-add-result
 add-result c = omega (arith, short (c .before))
-
-count-len-requires-2 : tie.Need-count-len-requires-2
-count-len-requires-2 c κs = search needs
 
 add-result-2 : tie.Need-add-result-2
 add-result-2 c = omega (arith, short (c .before .before))
 
-time-len-requires : tie.Need-time-len-requires
-time-len-requires c κs = search needs
-
 add-result-3 : tie.Need-add-result-3
 add-result-3 c = omega (arith, short (c .before .before .before))
-
-time-len-requires-2 : tie.Need-time-len-requires-2
-time-len-requires-2 c κs = search needs
 
 add-result-4 : tie.Need-add-result-4
 add-result-4 c = omega (arith, short (c .before .before .before .before))
@@ -46,12 +34,12 @@ pub use-len-spec : {M : Type 1} → statement M
 use-len-spec =
     tie.close
     (tie.spec
-    count-len-requires
+    (λ c κs. search needs)
     add-result
-    count-len-requires-2
+    (λ c κs. search needs)
     add-result-2
-    time-len-requires
+    (λ c κs. search needs)
     add-result-3
-    time-len-requires-2
+    (λ c κs. search needs)
     add-result-4
     returns)

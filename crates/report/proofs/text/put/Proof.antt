@@ -4,15 +4,6 @@ use borrow.Author.Needs.{needs}
 use Rattle.report.proofs.text.put.Statement.{statement}
 use Rattle.report.proofs.text.put.Tie as tie
 
-put-text-requires : tie.Need-put-text-requires
-put-text-requires c κs = search needs
-
-length-requires : tie.Need-length-requires
-length-requires c κs = search needs
-
-same-length : tie.Need-same-length
-same-length c = search needs
-
 returns : tie.Need-returns
 returns c =
     let w = c .before .before .before in
@@ -20,4 +11,4 @@ returns c =
     written-all (s .args .s .now) (s .args .out .now) (s .pre) (c .length .ensures) (w .put-text .ensures .0) (w .put-text .ensures .1)
 
 pub put-spec : {M : Type 1} → statement M
-put-spec = tie.close (tie.spec put-text-requires length-requires same-length returns)
+put-spec = tie.close (tie.spec (λ c κs. search needs) (λ c κs. search needs) (λ c. search needs) returns)

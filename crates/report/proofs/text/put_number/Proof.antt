@@ -6,15 +6,6 @@ use borrow.Author.Needs.{needs}
 use Rattle.report.proofs.text.put_number.Statement.{statement}
 use Rattle.report.proofs.text.put_number.Tie as tie
 
-put-count-requires : tie.Need-put-count-requires
-put-count-requires c κs = search needs
-
-length-requires : tie.Need-length-requires
-length-requires c κs = search needs
-
-same-length : tie.Need-same-length
-same-length c = search needs
-
 returns : tie.Need-returns
 returns c =
     let w = c .before .before .before in
@@ -23,4 +14,4 @@ returns c =
     written-all t (s .args .out .now) (omega (arith, count-most (s .args .n))) (c .length .ensures) (w .put-count .ensures .0) (w .put-count .ensures .1)
 
 pub put-number-spec : {M : Type 1} → statement M
-put-number-spec = tie.close (tie.spec put-count-requires length-requires same-length returns)
+put-number-spec = tie.close (tie.spec (λ c κs. search needs) (λ c κs. search needs) (λ c. search needs) returns)

@@ -29,27 +29,6 @@ four c =
 abbrev five : (c : tie.After-put3) → Upto (c .before .before .before .before .before .before .before .before .before .before .before .before .before .before .before .before .before .before .before .before .before .before .before .args .out .now) 35
 five c = upto-more (four (c .before .before .before .before .before)) (bytes "\n") (c .put3 .kept .0) (c .put3 .ensures) (omega arith) (omega arith)
 
-slice-aggregate-put : tie.Need-slice-aggregate-put
-slice-aggregate-put c = search needs
-
-put-requires : tie.Need-put-requires
-put-requires c κs = search needs
-
-sub-put-number : tie.Need-sub-put-number
-sub-put-number c = search needs
-
-part-put-number-start : tie.Need-part-put-number-start
-part-put-number-start c = search needs
-
-part-put-number-end : tie.Need-part-put-number-end
-part-put-number-end c = search needs
-
-number-requires : tie.Need-number-requires
-number-requires c κs = search needs
-
-put-number-requires : tie.Need-put-number-requires
-put-number-requires c κs = search needs
-
 add-b : tie.Need-add-b
 add-b c = omega (arith, two (c .before .before) .few)
 
@@ -58,12 +37,6 @@ sub-put c = upto-in (two (c .before .before)) (omega arith)
 
 part-put-start : tie.Need-part-put-start
 part-put-start c = upto-in (two (c .before .before)) (omega arith)
-
-part-put-end : tie.Need-part-put-end
-part-put-end c = search needs
-
-slice-aggregate-put-2 : tie.Need-slice-aggregate-put-2
-slice-aggregate-put-2 c = search needs
 
 put-requires-2 : tie.Need-put-requires-2
 put-requires-2 c κs = upto-room 6 (two (c .before .before .before .before)) (omega arith)
@@ -77,9 +50,6 @@ sub-put-number-2 c = upto-in (three (c .before .before)) (omega arith)
 part-put-number-start-2 : tie.Need-part-put-number-start-2
 part-put-number-start-2 c = upto-in (three (c .before .before)) (omega arith)
 
-part-put-number-end-2 : tie.Need-part-put-number-end-2
-part-put-number-end-2 c = search needs
-
 put-number-requires-2 : tie.Need-put-number-requires-2
 put-number-requires-2 c κs = upto-room 10 (three (c .before .before .before)) (omega arith)
 
@@ -92,20 +62,11 @@ sub-put-2 c = upto-in (four (c .before .before)) (omega arith)
 part-put-start-2 : tie.Need-part-put-start-2
 part-put-start-2 c = upto-in (four (c .before .before)) (omega arith)
 
-part-put-end-2 : tie.Need-part-put-end-2
-part-put-end-2 c = search needs
-
-slice-aggregate-put-3 : tie.Need-slice-aggregate-put-3
-slice-aggregate-put-3 c = search needs
-
 put-requires-3 : tie.Need-put-requires-3
 put-requires-3 c κs = upto-room 1 (four (c .before .before .before .before)) (omega arith)
 
 add-result : tie.Need-add-result
 add-result c = omega (arith, five (c .before .before) .few)
-
-same-length : tie.Need-same-length
-same-length c = search needs
 
 returns : tie.Need-returns
 unfolding refusalText
@@ -117,30 +78,30 @@ pub put-refusal-spec : {M : Type 1} → statement M
 put-refusal-spec =
     tie.close
     (tie.spec
-    slice-aggregate-put
-    put-requires
-    sub-put-number
-    part-put-number-start
-    part-put-number-end
-    number-requires
-    put-number-requires
+    (λ c. search needs)
+    (λ c κs. search needs)
+    (λ c. search needs)
+    (λ c. search needs)
+    (λ c. search needs)
+    (λ c κs. search needs)
+    (λ c κs. search needs)
     add-b
     sub-put
     part-put-start
-    part-put-end
-    slice-aggregate-put-2
+    (λ c. search needs)
+    (λ c. search needs)
     put-requires-2
     add-c
     sub-put-number-2
     part-put-number-start-2
-    part-put-number-end-2
+    (λ c. search needs)
     put-number-requires-2
     add-d
     sub-put-2
     part-put-start-2
-    part-put-end-2
-    slice-aggregate-put-3
+    (λ c. search needs)
+    (λ c. search needs)
     put-requires-3
     add-result
-    same-length
+    (λ c. search needs)
     returns)

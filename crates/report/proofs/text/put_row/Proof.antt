@@ -23,17 +23,11 @@ two c =
 abbrev three : (c : tie.After-put) → Upto (c .before .before .before .before .before .before .before .before .before .before .before .before .args .out .now) 28
 three c = upto-more (two (c .before .before .before .before .before)) (bytes "\n") (c .put .kept .0) (c .put .ensures) (omega arith) (omega arith)
 
-put-number-requires : tie.Need-put-number-requires
-put-number-requires c κs = search needs
-
 sub-put-verdict : tie.Need-sub-put-verdict
 sub-put-verdict c = upto-in (one (c .before .before)) (omega arith)
 
 part-put-verdict-start : tie.Need-part-put-verdict-start
 part-put-verdict-start c = upto-in (one (c .before .before)) (omega arith)
-
-part-put-verdict-end : tie.Need-part-put-verdict-end
-part-put-verdict-end c = search needs
 
 put-verdict-requires : tie.Need-put-verdict-requires
 put-verdict-requires c κs = upto-room 17 (one (c .before .before .before)) (omega arith)
@@ -47,20 +41,11 @@ sub-put c = upto-in (two (c .before .before)) (omega arith)
 part-put-start : tie.Need-part-put-start
 part-put-start c = upto-in (two (c .before .before)) (omega arith)
 
-part-put-end : tie.Need-part-put-end
-part-put-end c = search needs
-
-slice-aggregate-put : tie.Need-slice-aggregate-put
-slice-aggregate-put c = search needs
-
 put-requires : tie.Need-put-requires
 put-requires c κs = upto-room 1 (two (c .before .before .before .before)) (omega arith)
 
 add-result : tie.Need-add-result
 add-result c = omega (arith, three (c .before .before) .few)
-
-same-length : tie.Need-same-length
-same-length c = search needs
 
 returns : tie.Need-returns
 unfolding rowText
@@ -72,17 +57,17 @@ pub put-row-spec : {M : Type 1} → statement M
 put-row-spec =
     tie.close
     (tie.spec
-    put-number-requires
+    (λ c κs. search needs)
     sub-put-verdict
     part-put-verdict-start
-    part-put-verdict-end
+    (λ c. search needs)
     put-verdict-requires
     add-b
     sub-put
     part-put-start
-    part-put-end
-    slice-aggregate-put
+    (λ c. search needs)
+    (λ c. search needs)
     put-requires
     add-result
-    same-length
+    (λ c. search needs)
     returns)

@@ -32,21 +32,9 @@ next c =
     let r = getD (l .before .before .before .before .before .before .before .before .args .t2 .rows) (l .before .loop .i) noRecord in
     upto-more (so-far l) (rowText (r .task .0) (r .verdict)) (c .put-row .kept .0) (c .put-row .ensures) (omega (arith, c .before .before .before .before .before .before .before .put .kept .0)) (omega (arith, row-most (r .task .0) (r .verdict)))
 
-slice-aggregate-put : tie.Need-slice-aggregate-put Inv-loop μ-loop
-slice-aggregate-put c = search needs
-
-put-requires : tie.Need-put-requires Inv-loop μ-loop
-put-requires c κs = search needs
-
 loop-holds : tie.Need-loop-holds Inv-loop μ-loop
 unfolding recordsText
 loop-holds c = (omega arith, omega arith, filled-again (headed (c .before .before)))
-
-mul-x : tie.Need-mul-x Inv-loop μ-loop
-mul-x c = search needs
-
-element-copy-out-x : tie.Need-element-copy-out-x Inv-loop μ-loop
-element-copy-out-x c = search needs
 
 sub-put-row : tie.Need-sub-put-row Inv-loop μ-loop
 sub-put-row c = upto-in (so-far (c .before)) (omega arith)
@@ -54,26 +42,14 @@ sub-put-row c = upto-in (so-far (c .before)) (omega arith)
 part-put-row-start : tie.Need-part-put-row-start Inv-loop μ-loop
 part-put-row-start c = upto-in (so-far (c .before)) (omega arith)
 
-part-put-row-end : tie.Need-part-put-row-end Inv-loop μ-loop
-part-put-row-end c = search needs
-
 put-row-requires : tie.Need-put-row-requires Inv-loop μ-loop
 put-row-requires c κs = upto-room 28 (so-far (c .before .before)) (omega arith)
 
 add-at : tie.Need-add-at Inv-loop μ-loop
 add-at c = omega (arith, next (c .before .before) .few)
 
-add-i : tie.Need-add-i Inv-loop μ-loop
-add-i c = search needs
-
-loop-less : tie.Need-loop-less Inv-loop μ-loop
-loop-less c = search needs
-
 loop-again : tie.Need-loop-again Inv-loop μ-loop
 loop-again c = (omega arith, omega arith, rw records-more (next (c .before .before) .filled))
-
-same-length : tie.Need-same-length Inv-loop μ-loop
-same-length c = search needs
 
 returns : tie.Need-returns Inv-loop μ-loop
 returns c =
@@ -89,18 +65,18 @@ put-rows-spec =
     (tie.spec
     Inv-loop
     μ-loop
-    slice-aggregate-put
-    put-requires
+    (λ c. search needs)
+    (λ c κs. search needs)
     loop-holds
-    mul-x
-    element-copy-out-x
+    (λ c. search needs)
+    (λ c. search needs)
     sub-put-row
     part-put-row-start
-    part-put-row-end
+    (λ c. search needs)
     put-row-requires
     add-at
-    add-i
-    loop-less
+    (λ c. search needs)
+    (λ c. search needs)
     loop-again
-    same-length
+    (λ c. search needs)
     returns)

@@ -18,50 +18,14 @@ two c =
     let t = c .before .before .before .before .before .before .before .before .v .given .0 .0 in
     upto-more (one (c .before .before .before .before)) (countText t) (c .put-number .kept .0) (c .put-number .ensures) (omega arith) (omega (arith, count-most t))
 
-enum-known-v : tie.Need-enum-known-v
-enum-known-v c = search needs
-
-slice-aggregate-put : tie.Need-slice-aggregate-put
-slice-aggregate-put c = search needs
-
-put-requires : tie.Need-put-requires
-put-requires c κs = search needs
-
-sub-put-number : tie.Need-sub-put-number
-sub-put-number c = search needs
-
-part-put-number-start : tie.Need-part-put-number-start
-part-put-number-start c = search needs
-
-part-put-number-end : tie.Need-part-put-number-end
-part-put-number-end c = search needs
-
-put-number-requires : tie.Need-put-number-requires
-put-number-requires c κs = search needs
-
 add-result : tie.Need-add-result
 add-result c = omega (arith, two (c .before .before) .few)
-
-enum-told : tie.Need-enum-told
-enum-told c = search needs
-
-slice-aggregate-put-2 : tie.Need-slice-aggregate-put-2
-slice-aggregate-put-2 c = search needs
-
-put-requires-2 : tie.Need-put-requires-2
-put-requires-2 c κs = search needs
-
-same-length : tie.Need-same-length
-same-length c = search needs
 
 returns : tie.Need-returns
 unfolding verdictText
 returns c =
     let v = c .before .before .before .before .before .before .before .before .before .before in
     upto-done (verdictText (v .before .before .before .args .v)) (two (c .before .before)) (ap verdictText (sym (v .v .given .1)))
-
-same-length-2 : tie.Need-same-length-2
-same-length-2 c = search needs
 
 returns-2 : tie.Need-returns-2
 unfolding verdictText
@@ -74,18 +38,18 @@ pub put-verdict-spec : {M : Type 1} → statement M
 put-verdict-spec =
     tie.close
     (tie.spec
-    enum-known-v
-    slice-aggregate-put
-    put-requires
-    sub-put-number
-    part-put-number-start
-    part-put-number-end
-    put-number-requires
+    (λ c. search needs)
+    (λ c. search needs)
+    (λ c κs. search needs)
+    (λ c. search needs)
+    (λ c. search needs)
+    (λ c. search needs)
+    (λ c κs. search needs)
     add-result
-    enum-told
-    slice-aggregate-put-2
-    put-requires-2
-    same-length
+    (λ c. search needs)
+    (λ c. search needs)
+    (λ c κs. search needs)
+    (λ c. search needs)
     returns
-    same-length-2
+    (λ c. search needs)
     returns-2)

@@ -8,9 +8,6 @@ use borrow.Author.Needs.{needs}
 use Rattle.table.proofs.Table.empty.Statement.{statement}
 use Rattle.table.proofs.Table.empty.Tie as tie
 
-empty-requires : tie.Need-empty-requires
-empty-requires c κs = search needs
-
 abbrev rows : Task → Table
 rows x = record { cpus = 0; n = 0; tasks = replicate 32 x }
 
@@ -19,4 +16,4 @@ unfolding emptyTable
 returns c = ap rows (c .empty .ensures)
 
 pub empty-spec : {M : Type 1} → statement M
-empty-spec = tie.close (tie.spec empty-requires returns)
+empty-spec = tie.close (tie.spec (λ c κs. search needs) returns)

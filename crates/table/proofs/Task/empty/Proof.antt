@@ -8,9 +8,6 @@ use borrow.Author.Needs.{needs}
 use Rattle.table.proofs.Task.empty.Statement.{statement}
 use Rattle.table.proofs.Task.empty.Tie as tie
 
-unused-requires : tie.Need-unused-requires
-unused-requires c κs = search needs
-
 abbrev row : Pair → Task
 row p = record { period = 0; run = 0; deadline = 0; pairs = replicate 16 p }
 
@@ -19,4 +16,4 @@ unfolding emptyTask
 returns c = ap row (c .unused .ensures)
 
 pub empty-spec : {M : Type 1} → statement M
-empty-spec = tie.close (tie.spec unused-requires returns)
+empty-spec = tie.close (tie.spec (λ c κs. search needs) returns)

@@ -5,15 +5,9 @@ use borrow.Author.Needs.{needs}
 use Rattle.table.proofs.rules.pair.Statement.{statement}
 use Rattle.table.proofs.rules.pair.Tie as tie
 
-pair-in-range-requires : tie.Need-pair-in-range-requires
-pair-in-range-requires c κs = search needs
-
 returns : tie.Need-returns
 unfolding pairFault
 returns c = simp (stops (c .before .pair-in-range .ensures) (c .if1 .taken))
-
-totals-fit-requires : tie.Need-totals-fit-requires
-totals-fit-requires c κs = search needs
 
 returns-2 : tie.Need-returns-2
 unfolding pairFault
@@ -29,4 +23,4 @@ returns-3 c =
 
 pub pair-spec : {M : Type 1} → statement M
 pair-spec =
-    tie.close (tie.spec pair-in-range-requires returns totals-fit-requires returns-2 returns-3)
+    tie.close (tie.spec (λ c κs. search needs) returns (λ c κs. search needs) returns-2 returns-3)

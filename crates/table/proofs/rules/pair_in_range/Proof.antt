@@ -5,15 +5,9 @@ use borrow.Author.Needs.{needs}
 use Rattle.table.proofs.rules.pair_in_range.Statement.{statement}
 use Rattle.table.proofs.rules.pair_in_range.Tie as tie
 
-is-unused-requires : tie.Need-is-unused-requires
-is-unused-requires c κs = search needs
-
 returns : tie.Need-returns
 unfolding pairInRange
 returns c = simp (eq-eqb _ _ (c .before .if1 .taken)) (c .is-unused .ensures)
-
-used-in-range-requires : tie.Need-used-in-range-requires
-used-in-range-requires c κs = search needs
 
 returns-2 : tie.Need-returns-2
 unfolding pairInRange
@@ -21,4 +15,4 @@ returns-2 c = simp (ne-eqb _ _ (c .before .if1 .left)) (c .used-in-range .ensure
 
 pub pair-in-range-spec : {M : Type 1} → statement M
 pair-in-range-spec =
-    tie.close (tie.spec is-unused-requires returns used-in-range-requires returns-2)
+    tie.close (tie.spec (λ c κs. search needs) returns (λ c κs. search needs) returns-2)

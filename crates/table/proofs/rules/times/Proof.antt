@@ -5,15 +5,9 @@ use borrow.Author.Needs.{needs}
 use Rattle.table.proofs.rules.times.Statement.{statement}
 use Rattle.table.proofs.rules.times.Tie as tie
 
-times-in-range-requires : tie.Need-times-in-range-requires
-times-in-range-requires c κs = search needs
-
 returns : tie.Need-returns
 unfolding timesFault
 returns c = simp (stops (c .before .times-in-range .ensures) (c .if1 .taken))
-
-times-in-order-requires : tie.Need-times-in-order-requires
-times-in-order-requires c κs = search needs
 
 returns-2 : tie.Need-returns-2
 unfolding timesFault
@@ -30,4 +24,4 @@ returns-3 c =
 pub times-spec : {M : Type 1} → statement M
 times-spec =
     tie.close
-    (tie.spec times-in-range-requires returns times-in-order-requires returns-2 returns-3)
+    (tie.spec (λ c κs. search needs) returns (λ c κs. search needs) returns-2 returns-3)

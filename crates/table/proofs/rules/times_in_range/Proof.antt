@@ -5,24 +5,15 @@ use borrow.Author.Needs.{needs}
 use Rattle.table.proofs.rules.times_in_range.Statement.{statement}
 use Rattle.table.proofs.rules.times_in_range.Tie as tie
 
-in-range-requires : tie.Need-in-range-requires
-in-range-requires c κs = search needs
-
 returns : tie.Need-returns
 unfolding timesInRange
 returns c = simp (stops (c .before .in-range .ensures) (c .if1 .taken))
-
-in-range-requires-2 : tie.Need-in-range-requires-2
-in-range-requires-2 c κs = search needs
 
 returns-2 : tie.Need-returns-2
 unfolding timesInRange
 returns-2 c =
     let b = c .before .before in
     simp (passes (b .before .in-range .ensures) (b .if1 .left), stops (c .before .in-range2 .ensures) (c .if2 .taken))
-
-in-range-requires-3 : tie.Need-in-range-requires-3
-in-range-requires-3 c κs = search needs
 
 returns-3 : tie.Need-returns-3
 unfolding timesInRange
@@ -35,9 +26,9 @@ pub times-in-range-spec : {M : Type 1} → statement M
 times-in-range-spec =
     tie.close
     (tie.spec
-    in-range-requires
+    (λ c κs. search needs)
     returns
-    in-range-requires-2
+    (λ c κs. search needs)
     returns-2
-    in-range-requires-3
+    (λ c κs. search needs)
     returns-3)

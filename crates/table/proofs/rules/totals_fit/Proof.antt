@@ -10,17 +10,8 @@ returns : tie.Need-returns
 unfolding totalsFit
 returns c = simp (lt-leb _ _ (c .if1 .taken))
 
-cast-if2 : tie.Need-cast-if2
-cast-if2 c = search needs
-
-cast-if2-2 : tie.Need-cast-if2-2
-cast-if2-2 c = search needs
-
 mul-if2 : tie.Need-mul-if2
 mul-if2 c = record { fits = below 32 (search needs) (search needs) }
-
-cast-if2-3 : tie.Need-cast-if2-3
-cast-if2-3 c = search needs
 
 returns-2 : tie.Need-returns-2
 unfolding totalsFit
@@ -36,4 +27,4 @@ returns-3 c =
 
 pub totals-fit-spec : {M : Type 1} → statement M
 totals-fit-spec =
-    tie.close (tie.spec returns cast-if2 cast-if2-2 mul-if2 cast-if2-3 returns-2 returns-3)
+    tie.close (tie.spec returns (λ c. search needs) (λ c. search needs) mul-if2 (λ c. search needs) returns-2 returns-3)
