@@ -10,7 +10,6 @@ use borrow.Author.Tests.{ltb-true, ltb-false, lt-ltb, le-ltb}
 use lib.Dec.{ltb}
 use lib.ListN.{replicate, getD-replicate}
 use Rattle.basics.specs.Choice.{pick}
-use Rattle.basics.specs.Over.{sumTo}
 use Rattle.basics.proofs.OverLaws.{sum-none, sum-more}
 use Rattle.table.specs.declared.Level.{Level}
 use Rattle.table.specs.declared.Table.{Table}
@@ -21,7 +20,7 @@ use Rattle.theory.proofs.PassLaws.{ceiling-above}
 use Rattle.analysis.specs.declared.shares.Marks.{Marks}
 use Rattle.analysis.specs.declared.shares.Ceilings.{Ceilings}
 use Rattle.analysis.specs.Tables.{viewOf}
-use Rattle.analysis.specs.Pass.{markAt, ceilingAt, ceilingWith, CeilingsWith, HighIn}
+use Rattle.analysis.specs.Pass.{markAt, ceilingAt, ceilingWith, CeilingsWith, HighIn, CeilingsTo}
 
 -- a task above i that uses the resource brings its ceiling above i
 first-above : (e task i : Level) (b : Bool) → isAbove task e ≡ b → task .0 < i .0 → isAbove (pick b task e) i ≡ true
@@ -41,11 +40,6 @@ own-not e i false q = refl
 with-own : (e i : Level) (n : ℕ) → isAbove (ceilingWith e n i) i ≡ isAbove e i
 with-own e i zero = refl
 with-own e i (suc n) = rw (lt-ltb 0 (suc n) (omega arith)) (own-not e i (isAbove i e) refl)
-
--- the ceilings kept after the first l tasks: above i where one of these uses the resource
-abbrev pub CeilingsTo : Table → ℕ → ℕ → Ceilings → Type 0
-CeilingsTo t i l c =
-    (k : ℕ) → k < maxResources → isAbove (ceilingAt c k) (level i) ≡ ltb 0 (sumTo l (λ j. viewOf t .N (level j) (resource k)))
 
 -- the marks that are then made: the resources with a ceiling above i
 abbrev pub AboveIs : Table → ℕ → Marks → Type 0

@@ -6,6 +6,9 @@
 --     written-room        at most as many records are written as the row has room for
 --     written-most        and at most 32
 --     written-asks        where a record is written, the table is fine and the record is one of its tasks'
+--     fits                where nothing is said against the table and the row, the table is fine and has no more tasks than the row has records
+--     row-fine            the row that the analysis then leaves has the records of all tasks
+--     row-refused         where anything is said against them, it leaves the row as it was
 -- Assumes nothing.
 use mathlib.Core.Path.{_≡_, refl, sym, _∙_, ap, subst}
 use Prim.Native.Nat.{ℕ, zero, suc, _+_, _≤_, _<_, zero-le}
@@ -16,6 +19,7 @@ use mathlib.Core.List.{List, [], _∷_, _++_}
 use borrow.Author.Tests.{leb-true}
 use lib.ListN.{length, drop, set, length-append, length-drop}
 use Rattle.table.specs.declared.Table.{Table}
+use Rattle.table.specs.declared.Refusal.{Refusal}
 use Rattle.table.specs.declared.Fault.the-variants.{TooShort}
 use Rattle.table.specs.declared.Checked.{Checked}
 use Rattle.table.specs.declared.Checked.the-variants.{Fine, Refused}
@@ -73,7 +77,7 @@ row-last t ys = refl
 
 module _ (t : Table) (room : ℕ) where
   -- nothing is said against the table and the row
-  fits : analysisFault t room ≡ Fine → (tableFault t ≡ Fine) × (t .n ≤ room)
+  pub fits : analysisFault t room ≡ Fine → (tableFault t ≡ Fine) × (t .n ≤ room)
   unfolding analysisFault
   fits e =
       let p = then-fine (tableFault t) _ e in
@@ -102,3 +106,14 @@ module _ (t : Table) (room : ℕ) where
   pub written-asks : (i : ℕ) → i < written t room → (tableFault t ≡ Fine) × (i < t .n)
   unfolding written
   written-asks i l = asks-by i (analysisFault t room) refl l
+
+-- ---- the row that the analysis leaves
+
+module _ (t : Table) (ys : List Record) where
+  pub row-fine : analysisFault t (length ys) ≡ Fine → records t (t .n) ++ drop (t .n) ys ≡ analysed t ys
+  unfolding analysed written
+  row-fine e = rw e
+
+  pub row-refused : {r : Refusal} → analysisFault t (length ys) ≡ Refused r → ys ≡ analysed t ys
+  unfolding analysed written records
+  row-refused e = rw e

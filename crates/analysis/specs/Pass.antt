@@ -2,20 +2,26 @@
 use Prim.Native.Nat.{ℕ, _-_, _*_, _≤_, _<_, max}
 use mathlib.Core.Path.{_≡_}
 use mathlib.Core.Bool.{Bool, false}
+use mathlib.Core.List.{List}
 use lib.Dec.{ltb}
-use lib.ListN.{getD}
+use lib.ListN.{getD, length}
 use Rattle.basics.specs.Choice.{pick, only}
-use Rattle.basics.specs.Over.{sumTo}
+use Rattle.basics.specs.Over.{sumTo, maxTo}
 use Rattle.table.specs.declared.Level.{Level}
 use Rattle.table.specs.declared.Task.{Task}
-use Rattle.table.specs.Limits.{maxResources, maxTime}
-use Rattle.table.specs.At.{pairOf, totalOf}
-use Rattle.theory.specs.View.{isAbove}
+use Rattle.table.specs.declared.Table.{Table}
+use Rattle.table.specs.Limits.{maxTasks, maxResources, maxTime}
+use Rattle.table.specs.At.{taskAt, pairOf, totalOf}
+use Rattle.theory.specs.View.{level, resource, isAbove}
 use Rattle.analysis.specs.declared.shares.Marks.{Marks}
 use Rattle.analysis.specs.declared.shares.Ceilings.{Ceilings}
 use Rattle.analysis.specs.declared.shares.Peaks.{Peaks}
 use Rattle.analysis.specs.declared.shares.Totals.{Totals}
 use Rattle.analysis.specs.declared.shares.Share.{Share}
+use Rattle.analysis.specs.declared.shares.Above.{Above}
+use Rattle.analysis.specs.declared.shares.Below.{Below}
+use Rattle.analysis.specs.Tables.{viewOf}
+use Rattle.analysis.specs.Shares.{shareIn}
 
 -- what is kept for the resource at slot k
 abbrev pub markAt : Marks → ℕ → Bool
@@ -97,3 +103,35 @@ pub record LowerIs (m : Marks) (b : Task) (short : Bool) (e : Share) : Type 0 wh
   pub whole : e .whole ≡ 0
   pub one : e .one ≡ pick short 0 (markedSum m b)
   pub two : e .two ≡ 0
+
+-- a task's own: nothing of it counts
+pub record OwnIs (a : Task) (e : Share) : Type 0 where
+  pub period : e .period ≡ a .period
+  pub deadline : e .deadline ≡ a .deadline
+  pub whole : e .whole ≡ 0
+  pub one : e .one ≡ 0
+  pub two : e .two ≡ 0
+
+-- ---- the two passes of the analysis of task i
+
+-- the ceilings kept after the first l tasks: above i where one of these uses the resource
+abbrev pub CeilingsTo : Table → ℕ → ℕ → Ceilings → Type 0
+CeilingsTo t i l c =
+    (k : ℕ) → k < maxResources → isAbove (ceilingAt c k) (level i) ≡ ltb 0 (sumTo l (λ j. viewOf t .N (level j) (resource k)))
+
+-- the longest requests kept after the first j tasks: those of the tasks below i among these
+abbrev pub PeaksTo : Table → ℕ → ℕ → Peaks → Type 0
+PeaksTo t i j m =
+    (k : ℕ) → k < maxResources → peakAt m k ≡ maxTo j (λ l. only (isAbove (level i) (level l)) (viewOf t .c (level l) (resource k)))
+
+-- the tasks above i are passed: their shares stand in front of a row for all tasks, and the ceilings are those that they bring
+pub record SharesAbove (t : Table) (i : ℕ) (m : Marks) (short : Bool) (r : Above) : Type 0 where
+  pub each : (l : ℕ) → l < i → UpperIs m (taskAt t l) short (shareIn (r .of) l)
+  pub long : length (r .of) ≡ maxTasks
+  pub ceilings : CeilingsTo t i i (r .ceilings)
+
+-- those below i are passed too: their shares stand in the row, which is as it was down to i, and the longest requests are theirs
+pub record SharesBelow (t : Table) (i : ℕ) (m : Marks) (short : Bool) (held : List Share) (r : Below) : Type 0 where
+  pub kept : (l : ℕ) → l ≤ i → shareIn (r .of) l ≡ shareIn held l
+  pub each : (l : ℕ) → i < l → l < t .n → LowerIs m (taskAt t l) short (shareIn (r .of) l)
+  pub peaks : PeaksTo t i (t .n) (r .peaks)

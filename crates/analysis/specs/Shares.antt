@@ -1,6 +1,7 @@
 -- What is left of a table in the analysis of task i: a share for each task, and the demand over the shares.
 use Prim.Native.Nat.{ℕ, _+_, _-_, _≤_, _<_}
 use mathlib.Core.Path.{_≡_}
+use mathlib.Core.List.{List}
 use lib.ListN.{getD}
 use lib.Dec.{leb}
 use Rattle.basics.specs.Choice.{pick, only}
@@ -13,8 +14,15 @@ use Rattle.theory.specs.Demand.{sharedCT, otherCT, allCT, highCT, DB}
 use Rattle.analysis.specs.declared.shares.Share.{Share}
 use Rattle.analysis.specs.declared.shares.Shares.{Shares}
 
+-- the share at slot l of a row, and past its end nothing
+abbrev pub noShare : Share
+noShare = record { period = 0; deadline = 0; whole = 0; one = 0; two = 0 }
+
+abbrev pub shareIn : List Share → ℕ → Share
+shareIn of l = getD of l noShare
+
 abbrev pub shareAt : Shares → ℕ → Share
-shareAt s l = getD (s .of) l (record { period = 0; deadline = 0; whole = 0; one = 0; two = 0 })
+shareAt s l = shareIn (s .of) l
 
 -- ---- the demand over shares
 

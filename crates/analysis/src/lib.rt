@@ -4,8 +4,6 @@ ghost use Prim.Native.Nat.{_<_};
 ghost use Rattle.table.specs.declared.Checked.the-variants.{Fine};
 ghost use Rattle.table.specs.Limits.{maxTasks};
 ghost use Rattle.table.specs.Rules.{tableFault};
-ghost use Rattle.theory.specs.View.{level};
-ghost use Rattle.analysis.specs.Tables.{verdictIn};
 ghost use Rattle.analysis.specs.Answers.{boundOf, analysisFault, written, recordOf, analysed, Filled};
 use table::Checked;
 use table::Fault;
@@ -35,14 +33,17 @@ pub struct Analysis {
     pub rows: [Record; Table::MAX_TASKS],
 }
 
-// The verdict on the task at slot i of a table that nothing is said against.
-fn verdict_at(t: Table, i: usize) -> Verdict
+// The record of the task at slot i of a table that nothing is said against.
+fn record_at(t: Table, i: usize) -> Record
     requires { ⌜ (tableFault t ≡ Fine) × (i < t .n) ⌝ }
-    ensures { λ r. ⌜ r ≡ verdictIn t (level i) ⌝ }
+    ensures { λ r. ⌜ r ≡ recordOf t i ⌝ }
 {
     let a = t.tasks[i];
     let s = shares::shares_of(t, i);
-    rounds::verdict_of(s, a.deadline)
+    Record {
+        task: Level((i + 1) as u32),
+        verdict: rounds::verdict_of(s, a.deadline),
+    }
 }
 
 // The verdict on one task.
@@ -65,7 +66,9 @@ pub fn bound(t: Table, task: Level) -> Answer
             place: 0,
         });
     }
-    Answer::Known(verdict_at(t, number - 1))
+    let r = record_at(t, number - 1);
+    let verdict = r.verdict;
+    Answer::Known(verdict)
 }
 
 // What is said against a table and a row of so many records.
@@ -94,16 +97,6 @@ fn todo(t: Table, room: usize) -> usize
     t.n
 }
 
-fn record_at(t: Table, i: usize) -> Record
-    requires { ⌜ (tableFault t ≡ Fine) × (i < t .n) ⌝ }
-    ensures { λ r. ⌜ r ≡ recordOf t i ⌝ }
-{
-    Record {
-        task: Level((i + 1) as u32),
-        verdict: verdict_at(t, i),
-    }
-}
-
 // The verdicts on all tasks, into the caller's row: decided above, stored here one by one.
 pub fn analyse(t: Table, row: &mut [Record]) -> Checked
     ensures { λ r. ⌜ Filled t (now (row .entry)) r (now (row .exit)) ⌝ }
@@ -122,7 +115,19 @@ pub fn analyse(t: Table, row: &mut [Record]) -> Checked
 pub fn analyse_all(t: Table, rows: [Record; Table::MAX_TASKS]) -> Analysis
     ensures { λ r. ⌜ (r .answer ≡ analysisFault t maxTasks) × (r .rows ≡ analysed t rows) ⌝ }
 {
-    let mut row = rows;
-    let answer = analyse(t, &mut row);
-    Analysis { answer, rows: row }
+    let answer = judge(t, Table::MAX_TASKS);
+    let Checked::Fine = answer else {
+        return Analysis { answer, rows };
+    };
+    let mut filled = rows;
+    let n = t.n;
+    let mut k: usize = 0;
+    while k < n {
+        filled[k] = record_at(t, k);
+        k += 1;
+    }
+    Analysis {
+        answer,
+        rows: filled,
+    }
 }

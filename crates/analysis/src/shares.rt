@@ -8,7 +8,7 @@ ghost use Rattle.table.specs.Accepted.{GoodTask};
 ghost use Rattle.theory.specs.View.{level, isAbove};
 ghost use Rattle.analysis.specs.Tables.{viewOf};
 ghost use Rattle.analysis.specs.Shares.{Reduced};
-ghost use Rattle.analysis.specs.Pass.{Chosen, UsedBy, ceilingWith, CeilingsWith, HighIn, RaisedBy, SmallPeaks, TotalsAre, WaitIs, UpperIs, LowerIs};
+ghost use Rattle.analysis.specs.Pass.{Chosen, UsedBy, ceilingWith, CeilingsWith, HighIn, RaisedBy, SmallPeaks, TotalsAre, WaitIs, UpperIs, LowerIs, OwnIs, SharesAbove, SharesBelow};
 use table::Level;
 use table::Resource;
 use table::Table;
@@ -68,6 +68,18 @@ struct Peaks {
 struct Totals {
     marked: u32,
     all: u32,
+}
+
+// What is known once the tasks above i are passed: their shares, in front, and the ceilings that they bring.
+struct Above {
+    of: [Share; Table::MAX_TASKS],
+    ceilings: Ceilings,
+}
+
+// What is known once those below i are passed too: every share, and the longest requests below i.
+struct Below {
+    of: [Share; Table::MAX_TASKS],
+    peaks: Peaks,
 }
 
 fn only(on: bool, x: u32) -> u32
@@ -233,10 +245,23 @@ fn lower(above: Marks, b: Task, short: bool) -> Share
     }
 }
 
-// What the analysis of the task at slot i reads. Whether a ceiling is above i is known once the tasks down to i are.
-pub(crate) fn shares_of(t: Table, i: usize) -> Shares
+// A task's own share: nothing of it counts.
+fn own(a: Task) -> Share
+    ensures { λ r. ⌜ OwnIs a r ⌝ }
+{
+    Share {
+        period: a.period,
+        deadline: a.deadline,
+        whole: 0,
+        one: 0,
+        two: 0,
+    }
+}
+
+// The pass over the tasks above i.
+fn shares_above(t: Table, i: usize, mine: Marks, short: bool) -> Above
     requires { ⌜ (tableFault t ≡ Fine) × (i < t .n) ⌝ }
-    ensures { λ r. ⌜ Reduced (viewOf t) (level i) r ⌝ }
+    ensures { λ r. ⌜ SharesAbove t i mine short r ⌝ }
 {
     let none = Share {
         period: 0,
@@ -246,11 +271,6 @@ pub(crate) fn shares_of(t: Table, i: usize) -> Shares
         two: 0,
     };
     let mut of = [none; Table::MAX_TASKS];
-    let n = t.n;
-    let a = t.tasks[i];
-    let me = Level((i + 1) as u32);
-    let short = me.0 <= t.cpus;
-    let mine = used_by(a);
     let unknown = Level(Table::MAX_TASKS as u32 + 1);
     let mut ceilings = Ceilings {
         of: [unknown; Table::MAX_RESOURCES],
@@ -262,14 +282,22 @@ pub(crate) fn shares_of(t: Table, i: usize) -> Shares
         ceilings = ceilings_with(ceilings, b, Level((l + 1) as u32));
         l = l + 1;
     }
-    of[i] = Share {
-        period: a.period,
-        deadline: a.deadline,
-        whole: 0,
-        one: 0,
-        two: 0,
-    };
-    let above = high(ceilings_with(ceilings, a, me), me);
+    Above { of, ceilings }
+}
+
+// The pass over the tasks below i, with a row that holds the shares down to i.
+fn shares_below(
+    t: Table,
+    i: usize,
+    above: Marks,
+    short: bool,
+    held: [Share; Table::MAX_TASKS],
+) -> Below
+    requires { ⌜ (tableFault t ≡ Fine) × (i < t .n) ⌝ }
+    ensures { λ r. ⌜ SharesBelow t i above short held r ⌝ }
+{
+    let n = t.n;
+    let mut of = held;
     let mut peaks = Peaks {
         longest: [0; Table::MAX_RESOURCES],
     };
@@ -280,12 +308,30 @@ pub(crate) fn shares_of(t: Table, i: usize) -> Shares
         peaks = raised(peaks, b);
         j = j + 1;
     }
-    let wait = waiting(peaks, a);
+    Below { of, peaks }
+}
+
+// What the analysis of the task at slot i reads. Whether a ceiling is above i is known once the tasks down to i are.
+pub(crate) fn shares_of(t: Table, i: usize) -> Shares
+    requires { ⌜ (tableFault t ≡ Fine) × (i < t .n) ⌝ }
+    ensures { λ r. ⌜ Reduced (viewOf t) (level i) r ⌝ }
+{
+    let a = t.tasks[i];
+    let me = Level((i + 1) as u32);
+    let short = me.0 <= t.cpus;
+    let mine = used_by(a);
+    let up = shares_above(t, i, mine, short);
+    let above = high(ceilings_with(up.ceilings, a, me), me);
+    let mut of = up.of;
+    of[i] = own(a);
+    let down = shares_below(t, i, above, short, of);
+    let wait = waiting(down.peaks, a);
+    let all = down.of;
     Shares {
         start: a.run,
         base: wide(a.run) + wait,
         cpus: wide(t.cpus),
-        n,
-        of,
+        n: t.n,
+        of: all,
     }
 }

@@ -3,9 +3,10 @@ use mathlib.Core.Path.{_≡_, _∙_, sym, ap}
 use Prim.Native.Nat.{ℕ, suc, _-_}
 use native.Mathlib.Omega.{arith}
 use Rattle.basics.proofs.ChoiceLaws.{within-in, within-low, within-high}
+use Rattle.analysis.specs.declared.Record.{Record}
 use Rattle.analysis.specs.declared.Answer.the-variants.{Known}
 use Rattle.analysis.specs.Tables.{verdictIn}
-use Rattle.analysis.specs.Answers.{boundFault, boundOf}
+use Rattle.analysis.specs.Answers.{boundFault, boundOf, recordOf}
 use borrow.Author.Needs.{needs}
 use Rattle.analysis.proofs.bound.Statement.{statement}
 use Rattle.analysis.proofs.bound.Tie as tie
@@ -26,21 +27,21 @@ returns-3 c =
     let b = c .before .before .before .before in
     rw (sym (b .before .before .check .ensures) ∙ b .enum-told .given .1, within-high 1 _ _ (c .if2 .taken))
 
-verdict-at-requires : tie.Need-verdict-at-requires
-verdict-at-requires c κs =
+record-at-requires : tie.Need-record-at-requires
+record-at-requires c κs =
     let b = c .before .before .before .before in
     (sym (b .before .before .check .ensures) ∙ b .enum-told .given .1, omega arith)
 
--- a task's number is one more than its slot
+-- the record's verdict; a task's number is one more than its slot
 returns-4 : tie.Need-returns-4
-unfolding boundOf boundFault
+unfolding boundOf boundFault recordOf
 returns-4 c =
     let o = c .before in
     let b = o .before .before .before .before in
     let a = b .before .before .before .args in
     let slot : suc (a .task .0 - 1) ≡ a .task .0 = omega arith in
     rw (sym (b .before .before .check .ensures) ∙ b .enum-told .given .1, within-in 1 _ _ (o .before .before .if1 .left) (o .if2 .left))
-    (ap Known (c .verdict-at .ensures ∙ ap (λ (n : ℕ). verdictIn (a .t) (record { 0 = n })) slot))
+    (ap Known (ap (λ (r : Record). r .verdict) (c .record-at .ensures) ∙ ap (λ (n : ℕ). verdictIn (a .t) (record { 0 = n })) slot))
 
 pub bound-spec : {M : Type 1} → statement M
 bound-spec =
@@ -53,5 +54,5 @@ bound-spec =
     (λ c. search needs)
     returns-2
     returns-3
-    verdict-at-requires
+    record-at-requires
     returns-4)

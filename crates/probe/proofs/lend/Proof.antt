@@ -56,7 +56,7 @@ use Rattle.table.proofs.Table as B
 use Rattle.table.proofs.Table.Laws as B′
 use Rattle.table.proofs.Checked as E
 use Rattle.table.proofs.Checked.Laws as E′
-use Rattle.analysis.proofs.Lies.{Are, arr, arrTy, in-field, arr-typed, lies, whole}
+use Rattle.probe.proofs.Lies.{Are, arr, arrTy, in-field, arr-typed, lies, whole}
 use Rattle.analysis.proofs.Record as T
 use Rattle.analysis.proofs.Record.Laws as T′
 use Rattle.analysis.proofs.analyse as analyse

@@ -5,7 +5,7 @@ use native.Mathlib.Omega.{arith}
 use Prim.Native.Nat.{pred, _-_, _≤_}
 use Rattle.table.specs.At.{pairOf}
 use Rattle.analysis.specs.Pass.{ceilingAt, ceilingWith}
-use Rattle.analysis.proofs.PassShares.{Filled, filled-none, filled-more, filled-all}
+use Rattle.analysis.proofs.FilledLaws.{Filled, filled-none, filled-more, filled-all}
 use Rattle.analysis.proofs.shares.ceilings_with.Statement.{statement}
 use Rattle.analysis.proofs.shares.ceilings_with.Tie as tie
 

@@ -6,7 +6,7 @@ use native.Mathlib.Omega.{arith}
 use Prim.Native.Nat.{pred, _-_, _≤_}
 use Rattle.theory.specs.View.{isAbove}
 use Rattle.analysis.specs.Pass.{ceilingAt}
-use Rattle.analysis.proofs.PassShares.{Filled, filled-none, filled-more, filled-all}
+use Rattle.analysis.proofs.FilledLaws.{Filled, filled-none, filled-more, filled-all}
 use Rattle.analysis.proofs.shares.high.Statement.{statement}
 use Rattle.analysis.proofs.shares.high.Tie as tie
 

@@ -5,7 +5,7 @@ use native.Mathlib.Omega.{arith}
 use Prim.Native.Nat.{_-_, max}
 use Rattle.table.specs.At.{pairOf}
 use Rattle.analysis.specs.Pass.{peakAt}
-use Rattle.analysis.proofs.PassShares.{Filled, filled-none, filled-more, filled-all}
+use Rattle.analysis.proofs.FilledLaws.{Filled, filled-none, filled-more, filled-all}
 use Rattle.analysis.proofs.shares.raised.Statement.{statement}
 use Rattle.analysis.proofs.shares.raised.Tie as tie
 

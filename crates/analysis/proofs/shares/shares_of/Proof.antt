@@ -1,148 +1,84 @@
--- `analysis::shares::shares_of` meets its contract. The invariants: the shares of the tasks passed, and which ceilings these bring above i, then their longest requests. Assumes nothing.
+-- `analysis::shares::shares_of` meets its contract. Both passes and the task's own share make the row; the longest requests below make DB. Assumes nothing.
 use borrow.Author.Needs.{needs}
-use mathlib.Core.Path.{_≡_, refl, ap₂, _∙_, subst}
+use mathlib.Core.Path.{refl, ap₂, _∙_}
+use native.Mathlib.Nat.{le-refl}
 use native.Mathlib.Omega.{arith}
-use Prim.Native.Nat.{ℕ, _+_, _-_, _≤_, _<_}
+use Prim.Native.Nat.{_+_, _≤_}
 use Rattle.table.specs.Accepted.{Accepted}
 use Rattle.table.proofs.Acceptance.{fine-accepted}
-use Rattle.analysis.proofs.CeilingLaws.{CeilingsTo, AboveIs, ceilings-none, ceilings-more, ceilings-all}
-use Rattle.analysis.proofs.PassShares.{filled-none, filled-more, upper-is, lower-is, own-is, SharesTo, PeaksTo, peaks-none, peaks-more, peaks-small, wait-is, reduced}
+use Rattle.analysis.proofs.CeilingLaws.{AboveIs, ceilings-all}
+use Rattle.analysis.proofs.PeakLaws.{peaks-small, wait-is}
+use Rattle.analysis.proofs.PassShares.{shares-are}
+use Rattle.analysis.proofs.SoundLaws.{reduced}
 use Rattle.analysis.proofs.shares.shares_of.Statement.{statement}
 use Rattle.analysis.proofs.shares.shares_of.Tie as tie
 
-abbrev Inv-loop : tie.InvT-loop
-Inv-loop i t of₀ n a me short mine ceilings₀ l₀ of ceilings l = (n ≤ 32) × (l ≤ i) × SharesTo t i l of × CeilingsTo t i l ceilings
-
-abbrev μ-loop : tie.MeasureT-loop
-μ-loop i t of₀ n a me short mine ceilings₀ l₀ of ceilings l = i - l
-
-abbrev Inv-loop2 : tie.InvT-loop2
-Inv-loop2 i t of₀ n a short l above peaks₀ j₀ of peaks j = (n ≤ 32) × (i < j) × (j ≤ n) × SharesTo t i j of × PeaksTo t i j peaks
-
-abbrev μ-loop2 : tie.MeasureT-loop2
-μ-loop2 i t of₀ n a short l above peaks₀ j₀ of peaks j = n - j
-
-accepted : (b : tie.Start Inv-loop μ-loop Inv-loop2 μ-loop2) → Accepted (b .args .t1)
+accepted : (b : tie.Start) → Accepted (b .args .t1)
 accepted b = fine-accepted (b .args .t1) (b .pre .0)
 
-mul-a : tie.Need-mul-a Inv-loop μ-loop Inv-loop2 μ-loop2
+mul-a : tie.Need-mul-a
 mul-a c = omega (arith, accepted c .tasks-most)
 
-element-copy-out-a : tie.Need-element-copy-out-a Inv-loop μ-loop Inv-loop2 μ-loop2
+element-copy-out-a : tie.Need-element-copy-out-a
 element-copy-out-a c = omega (arith, accepted c .tasks-most)
 
-cast-short : tie.Need-cast-short Inv-loop μ-loop Inv-loop2 μ-loop2
+cast-short : tie.Need-cast-short
 cast-short c = omega (arith, accepted (c .before) .tasks-most)
 
-loop-holds : tie.Need-loop-holds Inv-loop μ-loop Inv-loop2 μ-loop2
-loop-holds c =
-    let b = c .before .before .before in
-    let most = accepted b .tasks-most in (
-      omega arith,
-      omega arith,
-      filled-none _ _ _ _ refl,
-      ceilings-none (b .args .t1) (b .args .i) (omega arith),
-    )
+array-set-from-of : tie.Need-array-set-from-of
+array-set-from-of c = omega (arith, accepted (c .before .before .before .before .before .before .before .before) .tasks-most)
 
-upper-requires : tie.Need-upper-requires Inv-loop μ-loop Inv-loop2 μ-loop2
-upper-requires c κs =
-    let p = c .before .before in
-    let b = p .before .before .before .before in
-    accepted b .task (p .loop .l) (omega arith)
-
-loop-again : tie.Need-loop-again Inv-loop μ-loop Inv-loop2 μ-loop2
-loop-again c =
-    let p = c .before .before .before .before in
-    let b = p .before .before .before .before in
-    let t = b .args .t1 in
-    let i = b .args .i in
-    let u = c .before .upper in
-    let share = upper-is t i (p .loop .l) (p .before .used-by .result) (u .result) (omega arith) (p .before .used-by .ensures) (u .ensures) in (
-      omega arith,
-      omega arith,
-      filled-more (p .loop .inv .2) (omega arith) _ _ refl share _ refl,
-      ceilings-more t i (p .loop .ceilings) (c .ceilings-with .result) (p .loop .l) (omega arith) (p .loop .inv .3) (c .ceilings-with .ensures),
-    )
+-- the function's entry, from where both passes are over
+abbrev start : tie.After-shares-below → tie.Start
+start c = c .before .before .before .before .before .before .before .before .before
 
 -- the marks are those of the ceilings above i
-above : (c : tie.After-high Inv-loop μ-loop Inv-loop2 μ-loop2)
-    → let b = c .before .before .before .before .before .before .before in
-    AboveIs (b .args .t1) (b .args .i) (c .high .result)
+above : (c : tie.After-shares-below) → AboveIs (start c .args .t1) (start c .args .i) (c .before .before .before .high .result)
 above c =
     let p = c .before .before .before in
-    let b = p .before .before .before .before in
-    let t = b .args .t1 in
-    let i = b .args .i in
-    let e : p .loop .l ≡ i = omega arith in
-    ceilings-all t i (p .loop .ceilings) (c .before .ceilings-with2 .result) (c .high .result) (omega arith)
-    (subst (λ (l : ℕ). CeilingsTo t i l (p .loop .ceilings)) e (p .loop .inv .3)) (c .before .ceilings-with2 .ensures) (c .high .ensures)
+    let a = start c .args in
+    let up = p .before .before .shares-above in
+    let w = p .before .ceilings-with in
+    ceilings-all (a .t1) (a .i) (up .result .ceilings) (w .result) (p .high .result)
+    (omega (arith, start c .pre .1)) (up .ensures .ceilings) (w .ensures) (p .high .ensures)
 
-loop2-holds : tie.Need-loop2-holds Inv-loop μ-loop Inv-loop2 μ-loop2
-loop2-holds c =
-    let p = c .before .before .before in
-    let b = p .before .before .before .before in
-    let t = b .args .t1 in
-    let i = b .args .i in (
-      omega arith,
-      omega arith,
-      omega arith,
-      filled-more (p .loop .inv .2) (omega arith) i _ (omega arith) (own-is t i) (i + 1) (omega arith),
-      peaks-none t i,
-    )
-
-lower-requires : tie.Need-lower-requires Inv-loop μ-loop Inv-loop2 μ-loop2
-lower-requires c κs =
-    let p = c .before .before in
-    let b = p .before .before .before .before .before .before .before .before in
-    accepted b .task (p .loop2 .j) (omega arith)
-
-loop2-again : tie.Need-loop2-again Inv-loop μ-loop Inv-loop2 μ-loop2
-loop2-again c =
-    let p = c .before .before .before .before in
-    let b = p .before .before .before .before .before .before .before .before in
-    let t = b .args .t1 in
-    let i = b .args .i in
-    let u = c .before .lower in
-    let share = lower-is t i (p .loop2 .j) (p .before .high .result) (u .result) (omega arith) (above (p .before)) (u .ensures) in (
-      omega arith,
-      omega arith,
-      omega arith,
-      filled-more (p .loop2 .inv .3) (omega arith) _ _ refl share _ refl,
-      peaks-more t i (p .loop2 .j) (p .loop2 .peaks) (c .raised .result) (omega arith) (p .loop2 .inv .4) (c .raised .ensures),
-    )
-
-waiting-requires : tie.Need-waiting-requires Inv-loop μ-loop Inv-loop2 μ-loop2
+waiting-requires : tie.Need-waiting-requires
 waiting-requires c κs =
-    let p = c .before in
-    let b = p .before .before .before .before .before .before .before .before in
+    let b = start c in
+    let t = b .args .t1 in
     let i = b .args .i in
-    (peaks-small (b .args .t1) i (p .loop2 .j) (p .loop2 .peaks) (accepted b) (omega arith) (p .loop2 .inv .4), accepted b .task i (b .pre .1))
+    let down = c .shares-below in
+    (peaks-small t i (t .n) (down .result .peaks) (accepted b) (le-refl _) (down .ensures .peaks), accepted b .task i (b .pre .1))
 
 -- C + DB is small
-small : (c : tie.After-wide Inv-loop μ-loop Inv-loop2 μ-loop2) → c .wide .result + c .before .waiting .result ≤ 1_000_000_000_000
+small : (c : tie.After-wide) → c .wide .result + c .before .before .waiting .result ≤ 1_000_000_000_000
 small c =
-    let b = c .before .before .before .before .before .before .before .before .before .before .before in
-    omega (arith, c .wide .ensures, c .before .waiting .ensures .most, accepted b .task (b .args .i) (b .pre .1) .times)
+    let w = c .before .before in
+    let b = start (w .before) in
+    omega (arith, c .wide .ensures, w .waiting .ensures .most, accepted b .task (b .args .i) (b .pre .1) .times)
 
-add-t51 : tie.Need-add-t51 Inv-loop μ-loop Inv-loop2 μ-loop2
-add-t51 c = omega (arith, small c)
+add-t26 : tie.Need-add-t26
+add-t26 c = omega (arith, small c)
 
-returns : tie.Need-returns Inv-loop μ-loop Inv-loop2 μ-loop2
+returns : tie.Need-returns
 returns c =
-    let p = c .before .before .before .before in
-    let b = p .before .before .before .before .before .before .before .before in
+    let w = c .before .before .before in
+    let p = w .before in
+    let b = start p in
     let t = b .args .t1 in
     let i = b .args .i in
-    let w = c .before .before .waiting .ensures in
-    let e : p .loop2 .j ≡ t .n = omega arith in
-    let peaks = subst (λ (j : ℕ). PeaksTo t i j (p .loop2 .peaks)) e (p .loop2 .inv .4) in
+    let q = p .before .before .before in
+    let used = q .before .before .before .used-by in
+    let up = q .before .before .shares-above in
+    let down = p .shares-below in
     reduced t i _ (accepted b) (b .pre .1)
     (record {
       start = refl;
-      base = ap₂ _+_ (c .before .wide .ensures) (w .is ∙ wait-is t i (p .loop2 .peaks) peaks);
+      base = ap₂ _+_ (c .before .wide .ensures) (w .waiting .ensures .is ∙ wait-is t i (down .result .peaks) (down .ensures .peaks));
       cpus = c .wide2 .ensures;
       n = refl;
-      each = λ l h. p .loop2 .inv .3 .each l (omega arith);
+      each = shares-are t i (used .result) (q .high .result) (up .result) (p .before .own .result) (down .result)
+          (omega (arith, accepted b .tasks-most)) (used .ensures) (above p) (up .ensures) (p .before .own .ensures) (down .ensures);
     })
     (small (c .before))
 
@@ -150,46 +86,20 @@ pub shares-of-spec : {M : Type 1} → statement M
 shares-of-spec =
     tie.close
     (tie.spec
-    Inv-loop
-    μ-loop
-    Inv-loop2
-    μ-loop2
     mul-a
     element-copy-out-a
     (λ c. search needs)
     cast-short
     (λ c κs. search needs)
-    (λ c. search needs)
-    (λ c. search needs)
-    loop-holds
-    (λ c. search needs)
-    (λ c. search needs)
-    upper-requires
-    (λ c. search needs)
-    (λ c. search needs)
-    (λ c. search needs)
-    (λ c. search needs)
     (λ c κs. search needs)
-    (λ c. search needs)
-    (λ c. search needs)
-    loop-again
-    (λ c. search needs)
-    (λ c. search needs)
+    (λ c κs. search needs)
     (λ c κs. search needs)
     (λ c κs. search needs)
     (λ c. search needs)
-    loop2-holds
-    (λ c. search needs)
-    (λ c. search needs)
-    lower-requires
-    (λ c. search needs)
-    (λ c. search needs)
+    array-set-from-of
     (λ c κs. search needs)
-    (λ c. search needs)
-    (λ c. search needs)
-    loop2-again
     waiting-requires
     (λ c κs. search needs)
-    add-t51
+    add-t26
     (λ c κs. search needs)
     returns)

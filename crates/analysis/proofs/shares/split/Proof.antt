@@ -7,7 +7,7 @@ use Rattle.basics.specs.Over.{sumTo}
 use Rattle.basics.proofs.OverLaws.{sum-none, sum-more}
 use Rattle.table.specs.At.{totalOf}
 use Rattle.analysis.specs.Pass.{markedOf}
-use Rattle.analysis.proofs.PassShares.{totals-most}
+use Rattle.analysis.proofs.SoundLaws.{totals-most}
 use Rattle.analysis.proofs.shares.split.Statement.{statement}
 use Rattle.analysis.proofs.shares.split.Tie as tie
 

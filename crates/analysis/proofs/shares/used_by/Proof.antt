@@ -6,7 +6,7 @@ use native.Mathlib.Omega.{arith}
 use Prim.Native.Nat.{_-_}
 use lib.Dec.{ltb}
 use Rattle.table.specs.At.{pairOf}
-use Rattle.analysis.proofs.PassShares.{Filled, filled-none, filled-more, filled-all}
+use Rattle.analysis.proofs.FilledLaws.{Filled, filled-none, filled-more, filled-all}
 use Rattle.analysis.proofs.shares.used_by.Statement.{statement}
 use Rattle.analysis.proofs.shares.used_by.Tie as tie
 

@@ -1,0 +1,79 @@
+-- `analysis::shares::shares_above` meets its contract. The loop's invariant: the first l shares are there, and the ceilings are of these l tasks. Assumes nothing.
+use borrow.Author.Needs.{needs}
+use mathlib.Core.Path.{_≡_, refl, subst}
+use native.Mathlib.Omega.{arith}
+use Prim.Native.Nat.{ℕ, _-_, _≤_, _<_}
+use Rattle.table.specs.Limits.{maxTasks}
+use Rattle.table.specs.At.{taskAt}
+use Rattle.table.specs.Accepted.{Accepted}
+use Rattle.table.proofs.Acceptance.{fine-accepted}
+use Rattle.analysis.specs.Shares.{noShare}
+use Rattle.analysis.specs.Pass.{UpperIs, CeilingsTo}
+use Rattle.analysis.proofs.FilledLaws.{Filled, filled-none, filled-more}
+use Rattle.analysis.proofs.CeilingLaws.{ceilings-none, ceilings-more}
+use Rattle.analysis.proofs.shares.shares_above.Statement.{statement}
+use Rattle.analysis.proofs.shares.shares_above.Tie as tie
+
+abbrev Inv-loop : tie.InvT-loop
+Inv-loop i mine short t of₀ ceilings₀ l₀ of ceilings l =
+    (i < maxTasks) × (l ≤ i) × Filled (λ j e. UpperIs mine (taskAt t j) short e) noShare maxTasks of l × CeilingsTo t i l ceilings
+
+abbrev μ-loop : tie.MeasureT-loop
+μ-loop i mine short t of₀ ceilings₀ l₀ of ceilings l = i - l
+
+accepted : (b : tie.Start Inv-loop μ-loop) → Accepted (b .args .t1)
+accepted b = fine-accepted (b .args .t1) (b .pre .0)
+
+loop-holds : tie.Need-loop-holds Inv-loop μ-loop
+loop-holds c =
+    let h : c .args .i < maxTasks = omega (arith, accepted c .tasks-most) in
+    (h, omega arith, filled-none _ _ _ _ refl, ceilings-none (c .args .t1) (c .args .i) h)
+
+upper-requires : tie.Need-upper-requires Inv-loop μ-loop
+upper-requires c κs =
+    let p = c .before .before in
+    accepted (p .before) .task (p .loop .l) (omega arith)
+
+loop-again : tie.Need-loop-again Inv-loop μ-loop
+loop-again c =
+    let p = c .before .before .before .before in
+    let a = p .before .args in (
+      omega arith,
+      omega arith,
+      filled-more (p .loop .inv .2) (omega arith) _ _ refl (c .before .upper .ensures) _ refl,
+      ceilings-more (a .t1) (a .i) (p .loop .ceilings) (c .ceilings-with .result) (p .loop .l) (omega arith) (p .loop .inv .3) (c .ceilings-with .ensures),
+    )
+
+returns : tie.Need-returns Inv-loop μ-loop
+returns c =
+    let p = c .before in
+    let a = p .before .args in
+    let f = p .loop .inv .2 in
+    let e : p .loop .l ≡ a .i = omega arith in
+    record {
+      each = λ l h. f .each l (omega arith);
+      long = f .long;
+      ceilings = subst (λ (l : ℕ). CeilingsTo (a .t1) (a .i) l (p .loop .ceilings)) e (p .loop .inv .3);
+    }
+
+pub shares-above-spec : {M : Type 1} → statement M
+shares-above-spec =
+    tie.close
+    (tie.spec
+    Inv-loop
+    μ-loop
+    (λ c. search needs)
+    (λ c. search needs)
+    loop-holds
+    (λ c. search needs)
+    (λ c. search needs)
+    upper-requires
+    (λ c. search needs)
+    (λ c. search needs)
+    (λ c. search needs)
+    (λ c. search needs)
+    (λ c κs. search needs)
+    (λ c. search needs)
+    (λ c. search needs)
+    loop-again
+    returns)

@@ -1,0 +1,2 @@
+-- Laws of the walk by hand of `lend`.
+pub mod Lies
