@@ -1,9 +1,11 @@
 // A listing to a table, and a table to a listing.
 ghost use mathlib.Core.Path.{_≡_};
-ghost use Prim.Native.Nat.{_≤_};
+ghost use mathlib.Core.Bool.{true};
+ghost use Prim.Native.Nat.{_-_, _≤_};
 ghost use lib.ListN.{length};
+ghost use Rattle.table.specs.Limits.{maxResources, maxListing};
 ghost use Rattle.listing.specs.Lines.{line};
-ghost use Rattle.listing.specs.Read.{newTask, pastAfter, refused, readListing};
+ghost use Rattle.listing.specs.Read.{newTask, pastAfter, refused, withPair, readEnd, readListing};
 ghost use Rattle.listing.specs.Write.{writeAnswer, written};
 use table::Checked;
 use table::Fault;
@@ -109,13 +111,38 @@ fn line_len(s: &[u8]) -> usize
     i
 }
 
-// The table that a listing says, or its first refusal.
-pub fn read(listing: &[u8]) -> Reading
+// The task with this pair for resource k.
+fn with_pair(a: Task, k: Resource, p: Pair) -> Task
+    requires { ⌜ (1 ≤ k .0) × (k .0 ≤ maxResources) ⌝ }
+    ensures { λ r. ⌜ r ≡ withPair a (k .0 - 1) p ⌝ }
+{
+    let mut x = a;
+    let j = (k.0 - 1) as usize;
+    x.pairs[j] = p;
+    x
+}
+
+// The answer after the last line; number is that of the line that would come next.
+fn at_end(table: Table, past: Past, number: u32) -> Reading
+    ensures { λ r. ⌜ r ≡ readEnd table past number true ⌝ }
+{
+    if number <= 1 {
+        return refuse(Fault::BadForm, number);
+    }
+    if past.tasks < 1 {
+        return refuse(Fault::NoTask, 2);
+    }
+    Reading {
+        answer: Checked::Fine,
+        table,
+    }
+}
+
+// The lines of a listing that is not too long, in order.
+fn read_lines(listing: &[u8]) -> Reading
+    requires { ⌜ length (now listing) ≤ maxListing ⌝ }
     ensures { λ r. ⌜ r ≡ readListing (now (listing .entry)) ⌝ }
 {
-    if Table::MAX_LISTING < listing.len() {
-        return refuse(Fault::TooLong, 0);
-    }
     let mut table = Table::empty();
     let mut past = Past {
         tasks: 0,
@@ -145,10 +172,8 @@ pub fn read(listing: &[u8]) -> Reading
             }
             Said::Use(k, p) => {
                 let i = tasks - 1;
-                let mut x = table.tasks[i];
-                let j = (k.0 - 1) as usize;
-                x.pairs[j] = p;
-                table.tasks[i] = x;
+                let x = table.tasks[i];
+                table.tasks[i] = with_pair(x, k, p);
             }
             Said::Not(r) => {
                 return Reading {
@@ -158,16 +183,17 @@ pub fn read(listing: &[u8]) -> Reading
             }
         }
     }
-    if number <= 1 {
-        return refuse(Fault::BadForm, number);
+    at_end(table, past, number)
+}
+
+// The table that a listing says, or its first refusal.
+pub fn read(listing: &[u8]) -> Reading
+    ensures { λ r. ⌜ r ≡ readListing (now (listing .entry)) ⌝ }
+{
+    if Table::MAX_LISTING < listing.len() {
+        return refuse(Fault::TooLong, 0);
     }
-    if past.tasks < 1 {
-        return refuse(Fault::NoTask, 2);
-    }
-    Reading {
-        answer: Checked::Fine,
-        table,
-    }
+    read_lines(listing)
 }
 
 // The text of a table, at the start of out.

@@ -1,0 +1,26 @@
+-- `listing::at_end` meets its contract: the tests of the definition, in its order. Assumes nothing.
+use native.Mathlib.Omega.{arith}
+use borrow.Author.Needs.{needs}
+use borrow.Author.Tests.{le-ltb, lt-ltb}
+use Rattle.listing.specs.Read.{readEnd}
+use Rattle.listing.proofs.at_end.Statement.{statement}
+use Rattle.listing.proofs.at_end.Tie as tie
+
+returns : tie.Need-returns
+unfolding readEnd
+returns c = rw (le-ltb 1 (c .before .before .args .number) (c .before .if1 .taken)) (c .refuse .ensures)
+
+returns-2 : tie.Need-returns-2
+unfolding readEnd
+returns-2 c =
+    let b = c .before .before .before in
+    rw (lt-ltb 1 (b .before .args .number) (b .if1 .left), le-ltb 0 (b .before .args .past .tasks) (omega arith)) (c .refuse2 .ensures)
+
+returns-3 : tie.Need-returns-3
+unfolding readEnd
+returns-3 c =
+    let b = c .before .before in
+    rw (lt-ltb 1 (b .before .args .number) (b .if1 .left), lt-ltb 0 (b .before .args .past .tasks) (omega arith))
+
+pub at-end-spec : {M : Type 1} → statement M
+at-end-spec = tie.close (tie.spec (λ c κs. search needs) returns (λ c κs. search needs) returns-2 returns-3)
