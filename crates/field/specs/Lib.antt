@@ -1,9 +1,7 @@
 -- Number fields (document 01, "The listing").
 --   Number     what a field at the start of a text reads as
 --   Spelling   the same said a second way: what a field has to be to state a number
---   Text       what the writers write
 --   Cases      the paper's fields, computed
 pub mod Number
 pub mod Spelling
-pub mod Text
 pub mod Cases

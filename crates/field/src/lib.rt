@@ -1,9 +1,8 @@
-// The number fields of a listing: read at the start of a part of the line that runs on past them, and written at the start of an output.
+// The number fields of a listing: read at the start of a part of the line that runs on past them.
 ghost use mathlib.Core.Path.{_≡_};
 ghost use lib.ListN.{drop};
 ghost use Prim.Native.Nat.{_-_, _*_, _^_, _≤_};
 ghost use Rattle.field.specs.Number.{ends, point, runOf, fraction, timeField, countField};
-ghost use Rattle.field.specs.Text.{putLength};
 
 // A field's value and its width in bytes, or that it is badly formed.
 pub enum Field {
@@ -15,32 +14,6 @@ pub enum Field {
 pub enum Run {
     Of(usize, u32),
     Long,
-}
-
-pub mod writing;
-
-pub use writing::count_len;
-pub use writing::put_count;
-pub use writing::put_text;
-pub use writing::put_time;
-pub use writing::time_len;
-
-// How many bytes were written, or that the output is too short and was left as it was.
-pub enum Put {
-    Wrote(usize),
-    Short,
-}
-
-impl Put {
-    // How many bytes were written.
-    pub fn length(self) -> usize
-        ensures { λ r. ⌜ r ≡ putLength self ⌝ }
-    {
-        match self {
-            Put::Wrote(n) => n,
-            Put::Short => 0,
-        }
-    }
 }
 
 // The digits that s starts with.

@@ -1,11 +1,9 @@
--- A listing to a table, and a table to a listing (document 01, "The listing").
+-- A listing to a table (document 01, "The listing").
 --   Lines      the lines of a listing, and the fields of a line
 --   Read       what a listing says, or the first refusal and its place
 --   ReadCases  listings and what is read of each, computed
 --   Figures    the same said a second way: the figures that a listing states, their rules, their table
---   Write      the text of a table, and what the writer answers
 pub mod Lines
 pub mod Read
 pub mod ReadCases
 pub mod Figures
-pub mod Write

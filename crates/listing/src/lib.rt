@@ -1,4 +1,4 @@
-// A listing to a table, and a table to a listing.
+// A listing to a table.
 ghost use mathlib.Core.Path.{_≡_};
 ghost use mathlib.Core.Bool.{true};
 ghost use Prim.Native.Nat.{_-_, _≤_};
@@ -6,7 +6,6 @@ ghost use lib.ListN.{length};
 ghost use Rattle.table.specs.Limits.{maxResources, maxListing};
 ghost use Rattle.listing.specs.Lines.{line};
 ghost use Rattle.listing.specs.Read.{newTask, pastAfter, refused, withPair, readEnd, readListing};
-ghost use Rattle.listing.specs.Write.{writeAnswer, written};
 use table::Checked;
 use table::Fault;
 use table::Pair;
@@ -16,7 +15,6 @@ use table::Table;
 use table::Task;
 
 mod line;
-mod text;
 
 // What the lines so far leave for the next one to be judged by: the tasks so far; and of the last of them its C, the K of its last
 // `use` line (0: none), and the sum of its CT.
@@ -39,12 +37,6 @@ pub enum Said {
 pub struct Reading {
     pub answer: Checked,
     pub table: Table,
-}
-
-// How many bytes were written, or why none were.
-pub enum Written {
-    Wrote(usize),
-    NotWritten(Refusal),
 }
 
 impl Past {
@@ -194,20 +186,4 @@ pub fn read(listing: &[u8]) -> Reading
         return refuse(Fault::TooLong, 0);
     }
     read_lines(listing)
-}
-
-// The text of a table, at the start of out.
-pub fn write(t: Table, out: &mut [u8]) -> Written
-    ensures { λ r. ⌜ (r ≡ writeAnswer t (length (now (out .entry)))) × (now (out .exit) ≡ written t (now (out .entry))) ⌝ }
-{
-    if let Checked::Refused(r) = table::check(t) {
-        return Written::NotWritten(r);
-    }
-    if out.len() < text::table_len(t) {
-        return Written::NotWritten(Refusal {
-            fault: Fault::TooShort,
-            place: 0,
-        });
-    }
-    Written::Wrote(text::put_table(out, t))
 }

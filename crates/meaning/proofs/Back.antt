@@ -17,11 +17,12 @@ use Rattle.table.specs.Empty.{unusedPair, emptyTask}
 use Rattle.table.specs.At.{noTask, taskAt, pairOf, SameTask}
 use Rattle.table.specs.Accepted.{PairBounds, GoodTask}
 use Rattle.table.proofs.Acceptance.{pair-bounds, fine-accepted}
-use Rattle.field.specs.Text.{countText}
-use Rattle.field.proofs.TextLaws.{count-text, time-length}
+use Rattle.put.specs.Text.{countText}
+use Rattle.meaning.proofs.FieldBack.{count-text}
+use Rattle.put.proofs.TimeLaws.{time-length}
 use Rattle.listing.specs.Read.{accepted}
 use Rattle.listing.specs.Figures.{TaskFigures, Figures, pairFor, taskOf, taskFor, tableOf}
-use Rattle.listing.specs.Write.{useText, pairText, taskText, textOf}
+use Rattle.writing.specs.Write.{useText, pairText, taskText, textOf}
 use Rattle.meaning.specs.Back.{clearedTask, cleared, TextFits, ReadsBack, ClearedSame, Rewrites, SameText}
 use Rattle.meaning.proofs.TableLaws.{row-at, row-eq, table}
 use Rattle.meaning.proofs.Meaning.{correct, complete, passes-check}

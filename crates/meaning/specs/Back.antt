@@ -13,7 +13,7 @@ use Rattle.table.specs.Empty.{emptyTask}
 use Rattle.table.specs.At.{taskAt, pairOf, Same}
 use Rattle.table.specs.Rules.{tableFault}
 use Rattle.listing.specs.Read.{accepted, readListing}
-use Rattle.listing.specs.Write.{textOf}
+use Rattle.writing.specs.Write.{textOf}
 use Rattle.listing.specs.Figures.{rowTo}
 
 -- a table with zeros past the nth task

@@ -8,7 +8,7 @@ use Rattle.table.specs.declared.Checked.{Checked}
 use Rattle.table.specs.declared.Checked.the-variants.{Fine, Refused}
 use Rattle.table.specs.Limits.{maxTasks}
 use Rattle.table.specs.Faults.{numberOf, _then_}
-use Rattle.field.specs.Text.{countText}
+use Rattle.put.specs.Text.{countText}
 use Rattle.theory.specs.declared.Verdict.{Verdict}
 use Rattle.theory.specs.declared.Verdict.the-variants.{Meets, Misses}
 use Rattle.theory.specs.View.{level}

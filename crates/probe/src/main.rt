@@ -6,7 +6,6 @@ use analysis::Answer;
 use analysis::Record;
 use libc::STDIN_FILENO;
 use libc::STDOUT_FILENO;
-use listing::Written;
 use table::Checked;
 use table::Level;
 use table::Pair;
@@ -14,6 +13,7 @@ use table::Refusal;
 use table::Table;
 use table::Task;
 use theory::Verdict;
+use writing::Written;
 
 // The words of a task, and the words and bytes of a request: an entry point, its argument, m, n in two words, and 32 tasks.
 const TASK: usize = 3 + 3 * Table::MAX_RESOURCES;
@@ -186,7 +186,7 @@ fn bound(t: Table, task: u32) {
 fn write_into(t: Table, out: &mut [u8], room: usize)
     requires { ⌜ room ≤ length (now out) ⌝ }
 {
-    match listing::write(t, &mut out[..room]) {
+    match writing::write(t, &mut out[..room]) {
         Written::Wrote(k) => {
             say(b"wrote ");
             io::print_decimal(STDOUT_FILENO, k as u64);

@@ -13,7 +13,7 @@ use Rattle.table.specs.Empty.{emptyTask, emptyTable}
 use Rattle.table.specs.Faults.{firstFault}
 use Rattle.table.specs.Rules.{timesInRange, timesInOrder, timesFault, isUnused, usedInRange, pairInRange, totalsFit, pairFault, pairsFault, taskFault, tasksFault, tableFault}
 use Rattle.field.specs.Number.{fraction, timeField, countField}
-use Rattle.field.specs.Text.{width, countText}
+use Rattle.put.specs.Text.{width, countText}
 use Rattle.listing.specs.Lines.{fieldCount}
 use Rattle.listing.specs.Read.{cpusLine, taskLine, useLine, lineSays, pastAfter, newTask, tableAfter, readEnd, readLines, readListing}
 use Rattle.theory.specs.declared.Verdict.{Verdict}

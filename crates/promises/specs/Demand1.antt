@@ -21,10 +21,10 @@ use Rattle.table.specs.Empty.{emptyTable}
 use Rattle.table.specs.Faults.{_then_, unless, firstFault}
 use Rattle.table.specs.Rules.{tableFault}
 use Rattle.table.specs.Accepted.{Accepted}
-use Rattle.field.specs.declared.Put.the-variants.{Short}
-use Rattle.field.specs.Text.{putAnswer}
+use Rattle.put.specs.declared.Put.the-variants.{Short}
+use Rattle.put.specs.Text.{putAnswer}
 use Rattle.listing.specs.Read.{readListing}
-use Rattle.listing.specs.Write.{textOf, writeFault, writeAnswer, written}
+use Rattle.writing.specs.Write.{textOf, writeFault, writeAnswer, written}
 use Rattle.analysis.specs.declared.Record.{Record}
 use Rattle.analysis.specs.Answers.{boundFault, boundOf, analysisFault, analysed, Filled}
 use Rattle.table.proofs.Fault.number.Reads as number
@@ -36,16 +36,16 @@ use Rattle.table.proofs.rules.times.Reads as times
 use Rattle.table.proofs.rules.totals_fit.Reads as totals-fit
 use Rattle.table.proofs.rules.used_in_range.Reads as used-in-range
 use Rattle.field.proofs.ends_at.Reads as ends-at
-use Rattle.field.proofs.Put.length.Reads as put-length
-use Rattle.field.proofs.writing.count_len.Reads as count-len
-use Rattle.field.proofs.writing.put_text.Reads as put-text
-use Rattle.field.proofs.writing.time_len.Reads as time-len
+use Rattle.put.proofs.Put.length.Reads as put-length
+use Rattle.put.proofs.count_len.Reads as count-len
+use Rattle.put.proofs.put_text.Reads as put-text
+use Rattle.put.proofs.time_len.Reads as time-len
 use Rattle.field.proofs.count.Reads as count
 use Rattle.field.proofs.time.Reads as time
-use Rattle.field.proofs.writing.put_count.Reads as put-count
-use Rattle.field.proofs.writing.put_time.Reads as put-time
+use Rattle.put.proofs.put_count.Reads as put-count
+use Rattle.put.proofs.put_time.Reads as put-time
 use Rattle.listing.proofs.read.Reads as read
-use Rattle.listing.proofs.write.Reads as write
+use Rattle.writing.proofs.write.Reads as write
 use Rattle.analysis.proofs.analyse_all.Reads as analyse-all
 use Rattle.analysis.proofs.bound.Reads as bound
 use Rattle.promises.specs.Words.{_exactly-if_, Answers, Leaves}

@@ -30,9 +30,9 @@ use Rattle.table.specs.Limits.{maxTasks}
 use Rattle.table.specs.Rules.{tableFault}
 use Rattle.table.proofs.FirstLaws.{then-fine}
 use Rattle.table.proofs.Acceptance.{fine-accepted}
-use Rattle.field.specs.declared.Put.{Put}
-use Rattle.field.specs.Text.{countText, putAnswer, putLength}
-use Rattle.field.proofs.TextLaws.{count-length, width-most}
+use Rattle.put.specs.declared.Put.{Put}
+use Rattle.put.specs.Text.{countText, putAnswer, putLength}
+use Rattle.put.proofs.TextLaws.{count-length, width-most}
 use Rattle.theory.specs.declared.Verdict.{Verdict}
 use Rattle.theory.specs.declared.Verdict.the-variants.{Meets, Misses}
 use Rattle.listing.specs.declared.Reading.{Reading}

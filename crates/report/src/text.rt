@@ -3,7 +3,7 @@ ghost use mathlib.Core.Path.{_≡_};
 ghost use mathlib.Core.List.{_++_};
 ghost use Prim.Native.Nat.{_≤_};
 ghost use lib.ListN.{length, drop};
-ghost use Rattle.field.specs.Text.{countText};
+ghost use Rattle.put.specs.Text.{countText};
 ghost use Rattle.page.specs.Report.{refusalText, verdictText, rowText, reportText};
 ghost use Rattle.report.specs.Rows.{recordsText};
 use analysis::Analysis;
@@ -22,7 +22,7 @@ fn put(out: &mut [u8], s: &[u8]) -> usize
     requires { ⌜ length (now s) ≤ length (now out) ⌝ }
     ensures { λ r. ⌜ (r ≡ length (now (s .entry))) × (now (out .exit) ≡ now (s .entry) ++ drop r (now (out .entry))) ⌝ }
 {
-    field::put_text(out, s).length()
+    put::put_text(out, s).length()
 }
 
 // A number at the start of out.
@@ -30,7 +30,7 @@ fn put_number(out: &mut [u8], n: u32) -> usize
     requires { ⌜ 10 ≤ length (now out) ⌝ }
     ensures { λ r. ⌜ (r ≡ length (countText n)) × (now (out .exit) ≡ countText n ++ drop r (now (out .entry))) ⌝ }
 {
-    field::put_count(out, n).length()
+    put::put_count(out, n).length()
 }
 
 fn put_refusal(out: &mut [u8], r: Refusal) -> usize

@@ -1,5 +1,6 @@
 pub mod Chain
 pub mod FirstLaws
+pub mod FirstDecides
 pub mod Product
 pub mod Acceptance
 pub mod Sameness

@@ -1,7 +1,7 @@
 -- `report::text::put_number` meets its contract: a number has at most ten digits, so it fits. Assumes nothing.
 use Rattle.report.proofs.ReportLaws.{count-most, written-all}
 use native.Mathlib.Omega.{arith}
-use Rattle.field.specs.Text.{countText}
+use Rattle.put.specs.Text.{countText}
 use borrow.Author.Needs.{needs}
 use Rattle.report.proofs.text.put_number.Statement.{statement}
 use Rattle.report.proofs.text.put_number.Tie as tie

@@ -2,7 +2,7 @@
 use mathlib.Core.Path.{sym, ap}
 use native.Mathlib.Omega.{arith}
 use Rattle.basics.specs.Text.{bytes}
-use Rattle.field.specs.Text.{countText}
+use Rattle.put.specs.Text.{countText}
 use Rattle.page.specs.Report.{verdictText}
 use Rattle.report.proofs.ReportLaws.{Upto, upto-first, upto-more, upto-done, count-most}
 use borrow.Author.Needs.{needs}

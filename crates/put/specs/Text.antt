@@ -1,0 +1,59 @@
+-- What the writers write (document 01, "The listing"): "no leading zeros in the whole part (one `0` if it is zero), no trailing zeros in
+-- the fraction, and no point if the fraction is zero".
+use Prim.Native.Nat.{ℕ, zero, suc, _/_, _%_, _+_}
+use mathlib.Core.Bool.{Bool}
+use mathlib.Core.List.{List, [], _∷_, _++_}
+use lib.ListN.{length}
+use lib.Dec.{ltb, leb, eqb}
+use Rattle.basics.specs.Choice.{pick}
+use Rattle.put.specs.declared.Put.{Put}
+use Rattle.put.specs.declared.Put.the-variants.{Wrote, Short}
+
+-- the last k decimal digits of n
+abbrev pub digitsOf : ℕ → ℕ → List ℕ
+digitsOf zero n = []
+digitsOf (suc k) n = digitsOf k (n / 10) ++ ((48 + n % 10) ∷ [])
+
+-- how many digits n has, of a number of at most ten; 0 has one
+unfoldable pub width : ℕ → ℕ
+width n =
+    pick (ltb n 10) 1
+    (pick (ltb n 100) 2
+    (pick (ltb n 1_000) 3
+    (pick (ltb n 10_000) 4
+    (pick (ltb n 100_000) 5
+    (pick (ltb n 1_000_000) 6
+    (pick (ltb n 10_000_000) 7
+    (pick (ltb n 100_000_000) 8
+    (pick (ltb n 1_000_000_000) 9 10))))))))
+
+-- a count: n in decimal, with no leading zeros
+unfoldable pub countText : ℕ → List ℕ
+countText n = digitsOf (width n) n
+
+-- a digit in front of digits that are trimmed: a '0' with nothing behind it goes
+abbrev pub before : ℕ → List ℕ → List ℕ
+before d [] = pick (eqb d 48) [] (d ∷ [])
+before d (e ∷ es) = d ∷ e ∷ es
+
+-- digits without the zeros at their end
+abbrev pub trim : List ℕ → List ℕ
+trim [] = []
+trim (d ∷ ds) = before d (trim ds)
+
+-- a fraction behind its point, or nothing
+abbrev pub pointed : List ℕ → List ℕ
+pointed [] = []
+pointed (d ∷ ds) = 46 ∷ d ∷ ds
+
+-- a time of us microseconds, in milliseconds
+unfoldable pub timeText : ℕ → List ℕ
+timeText us = countText (us / 1000) ++ pointed (trim (digitsOf 3 (us % 1000)))
+
+-- what a writer of a text answers, of an output that holds `out`
+abbrev pub putAnswer : List ℕ → List ℕ → Put
+putAnswer text out = pick (leb (length text) (length out)) (Wrote (length text)) Short
+
+abbrev pub putLength : Put → ℕ
+putLength (Wrote n) = n
+putLength Short = 0

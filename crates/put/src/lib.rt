@@ -1,0 +1,198 @@
+// Texts, counts and times, written at the start of an output.
+ghost use mathlib.Core.Path.{_≡_};
+ghost use mathlib.Core.List.{_∷_, _++_};
+ghost use Prim.Native.Nat.{_+_, _≤_, _<_};
+ghost use lib.ListN.{length, drop};
+ghost use Rattle.basics.specs.Text.{putInto};
+ghost use Rattle.put.specs.Text.{width, digitsOf, trim, countText, timeText, putAnswer, putLength};
+
+// How many bytes were written, or that the output is too short and was left as it was.
+pub enum Put {
+    Wrote(usize),
+    Short,
+}
+
+impl Put {
+    // How many bytes were written.
+    pub fn length(self) -> usize
+        ensures { λ r. ⌜ r ≡ putLength self ⌝ }
+    {
+        match self {
+            Put::Wrote(n) => n,
+            Put::Short => 0,
+        }
+    }
+}
+
+// So many digits of a number.
+struct Digits {
+    value: u32,
+    count: usize,
+}
+
+// How many digits n has.
+fn width_of(n: u32) -> usize
+    ensures { λ r. ⌜ r ≡ width n ⌝ }
+{
+    if n < 10 {
+        return 1;
+    }
+    if n < 100 {
+        return 2;
+    }
+    if n < 1_000 {
+        return 3;
+    }
+    if n < 10_000 {
+        return 4;
+    }
+    if n < 100_000 {
+        return 5;
+    }
+    if n < 1_000_000 {
+        return 6;
+    }
+    if n < 10_000_000 {
+        return 7;
+    }
+    if n < 100_000_000 {
+        return 8;
+    }
+    if n < 1_000_000_000 {
+        return 9;
+    }
+    10
+}
+
+// The digits of a fraction in thousandths, without the zeros at their end.
+fn fraction_of(x: u32) -> Digits
+    requires { ⌜ x < 1000 ⌝ }
+    ensures { λ r. ⌜ (trim (digitsOf 3 x) ≡ digitsOf (r .count) (r .value)) × (r .count ≤ 3) ⌝ }
+{
+    if x == 0 {
+        return Digits { value: 0, count: 0 };
+    }
+    if x % 100 == 0 {
+        return Digits {
+            value: x / 100,
+            count: 1,
+        };
+    }
+    if x % 10 == 0 {
+        return Digits {
+            value: x / 10,
+            count: 2,
+        };
+    }
+    Digits { value: x, count: 3 }
+}
+
+// The last k digits of n, at the start of out.
+fn put_digits(out: &mut [u8], n: u32, k: usize)
+    requires { ⌜ k ≤ length (now out) ⌝ }
+    ensures { λ _. ⌜ now (out .exit) ≡ digitsOf k n ++ drop k (now (out .entry)) ⌝ }
+{
+    let mut rest = n;
+    let mut i = k;
+    while 0 < i {
+        i -= 1;
+        out[i] = 48 + (rest % 10) as u8;
+        rest /= 10;
+    }
+}
+
+// A point and the last k digits of x, at the start of out.
+fn put_fraction(out: &mut [u8], x: u32, k: usize)
+    requires { ⌜ k < length (now out) ⌝ }
+    ensures { λ _. ⌜ now (out .exit) ≡ (46 ∷ digitsOf k x) ++ drop (k + 1) (now (out .entry)) ⌝ }
+{
+    out[0] = 46;
+    put_digits(&mut out[1..], x, k);
+}
+
+// A time at the start of a scratch area, which has room for it; answers its length.
+fn build_time(out: &mut [u8], us: u32) -> usize
+    requires { ⌜ 16 ≤ length (now out) ⌝ }
+    ensures { λ r. ⌜ (r ≡ length (timeText us)) × (now (out .exit) ≡ timeText us ++ drop r (now (out .entry))) ⌝ }
+{
+    let whole = us / 1000;
+    let w = width_of(whole);
+    put_digits(out, whole, w);
+    let f = fraction_of(us % 1000);
+    let k = f.count;
+    let x = f.value;
+    if k == 0 {
+        return w;
+    }
+    put_fraction(&mut out[w..], x, k);
+    w + 1 + k
+}
+
+// s at the start of out.
+fn put_bytes(out: &mut [u8], s: &[u8])
+    requires { ⌜ length (now s) ≤ length (now out) ⌝ }
+    ensures { λ _. ⌜ now (out .exit) ≡ now (s .entry) ++ drop (length (now (s .entry))) (now (out .entry)) ⌝ }
+{
+    let mut i = 0;
+    while i < s.len() {
+        out[i] = s[i];
+        i += 1;
+    }
+}
+
+// How long a count's text is.
+pub fn count_len(n: u32) -> usize
+    ensures { λ r. ⌜ r ≡ length (countText n) ⌝ }
+{
+    width_of(n)
+}
+
+// How long a time's text is.
+pub fn time_len(us: u32) -> usize
+    ensures { λ r. ⌜ r ≡ length (timeText us) ⌝ }
+{
+    let w = width_of(us / 1000);
+    let f = fraction_of(us % 1000);
+    let k = f.count;
+    if k == 0 {
+        return w;
+    }
+    w + 1 + k
+}
+
+// Any bytes at the start of out.
+pub fn put_text(out: &mut [u8], s: &[u8]) -> Put
+    ensures { λ r. ⌜ (r ≡ putAnswer (now (s .entry)) (now (out .entry))) × (now (out .exit) ≡ putInto (now (s .entry)) (now (out .entry))) ⌝ }
+{
+    let n = s.len();
+    if out.len() < n {
+        return Put::Short;
+    }
+    put_bytes(out, s);
+    Put::Wrote(n)
+}
+
+// A count at the start of out.
+pub fn put_count(out: &mut [u8], n: u32) -> Put
+    ensures { λ r. ⌜ (r ≡ putAnswer (countText n) (now (out .entry))) × (now (out .exit) ≡ putInto (countText n) (now (out .entry))) ⌝ }
+{
+    let k = width_of(n);
+    if out.len() < k {
+        return Put::Short;
+    }
+    put_digits(out, n, k);
+    Put::Wrote(k)
+}
+
+// A time at the start of out: its digits are built in a scratch area, and copied.
+pub fn put_time(out: &mut [u8], us: u32) -> Put
+    ensures { λ r. ⌜ (r ≡ putAnswer (timeText us) (now (out .entry))) × (now (out .exit) ≡ putInto (timeText us) (now (out .entry))) ⌝ }
+{
+    let mut scratch = [0u8; 16];
+    let n = build_time(&mut scratch, us);
+    if out.len() < n {
+        return Put::Short;
+    }
+    put_bytes(out, &scratch[..n]);
+    Put::Wrote(n)
+}

@@ -1,0 +1,149 @@
+-- Laws of the writer: a text put at a place of an output, texts written one after the other, and how long the lines are.
+-- Assumes nothing.
+use Prim.Native.Nat.{ℕ, suc, _+_, _≤_, _<_}
+use mathlib.Core.Path.{_≡_, refl, sym, ap, _∙_}
+use mathlib.Core.List.{List, [], _∷_, _++_, append-assoc, append-nil}
+use native.Mathlib.Omega.{arith}
+use native.Mathlib.Numerals.{add-one}
+use lib.ListN.{length, set, take, drop, length-append, take-append-drop}
+use lib.Seq.{take-at, drop-at, drop-drop, append-snoc, length-take-le}
+use lib.Dec.{ltb}
+use borrow.Author.Tests.{le-leb, lt-ltb}
+use Rattle.basics.specs.Choice.{pick}
+use Rattle.basics.specs.Over.{joinTo}
+use Rattle.basics.specs.Text.{putInto}
+use Rattle.basics.proofs.OverLaws.{join-none, join-more, join-room}
+use Rattle.basics.proofs.FillLaws.{restAt, backAt, rest-length, Filled, filled-part, filled-byte}
+use Rattle.put.specs.declared.Put.{Put}
+use Rattle.put.specs.Text.{countText, timeText, putAnswer, putLength}
+use Rattle.put.proofs.TextLaws.{count-length, width-most}
+use Rattle.put.proofs.TimeLaws.{time-length}
+use Rattle.table.specs.declared.Pair.{Pair}
+use Rattle.table.specs.declared.Task.{Task}
+use Rattle.table.specs.declared.Table.{Table}
+use Rattle.table.specs.At.{taskAt}
+use Rattle.listing.specs.Figures.{ending, lineOf}
+use Rattle.writing.specs.Write.{useText, timesText, taskText}
+
+-- ---- a text put at a place
+
+-- an output is filled with itself up to any place
+pub filled-here : (o : List ℕ) (a : ℕ) → a ≤ length o → Filled o o (take a o) a
+filled-here o a h = record { holds = sym (take-append-drop a o); long = length-take-le a o h; kept = refl }
+
+pub filled-within : {o o₁ p : List ℕ} {a : ℕ} → Filled o o₁ p a → a ≤ length o
+filled-within {o} {o₁} {p} {a} f = omega (arith, f .long, f .kept, ap length (f .holds), length-append p (drop a o))
+
+-- the rest is lent to a writer of t, and has the room
+pub filled-put : {o o₁ p : List ℕ} {a : ℕ} → Filled o o₁ p a → (t : List ℕ) {q : Put} {ys : List ℕ} {k : ℕ} → a + length t ≤ length o
+    → q ≡ putAnswer t (restAt o₁ a) → k ≡ putLength q → length ys ≡ length (restAt o₁ a) → ys ≡ putInto t (restAt o₁ a)
+    → Filled o (backAt o₁ a ys) (p ++ t) (a + k)
+filled-put {o} {o₁} {p} {a} f t {q} {ys} {k} h e n l w =
+    let b = le-leb (length t) (length (restAt o₁ a)) (omega (arith, rest-length o₁ a, f .kept)) in
+    let m : k ≡ length t = n ∙ ap putLength (rw b at e) in
+    let v : ys ≡ t ++ drop k (restAt o₁ a) = rw m (rw b at w) in
+    filled-part f t (omega arith) m l v
+
+-- the same, behind a space at the place a
+pub filled-field : (o : List ℕ) (a : ℕ) (t : List ℕ) {q : Put} {ys : List ℕ} {k : ℕ} → a + length t < length o
+    → q ≡ putAnswer t (restAt (set o a 32) (a + 1)) → k ≡ putLength q → length ys ≡ length (restAt (set o a 32) (a + 1))
+    → ys ≡ putInto t (restAt (set o a 32) (a + 1)) → Filled o (backAt (set o a 32) (a + 1) ys) (take a o ++ 32 ∷ t) (a + 1 + k)
+filled-field o a t h e n l w =
+    rw (← append-snoc) (filled-put (filled-byte (filled-here o a (omega arith)) 32 (omega arith)) t (omega arith) e n l w)
+
+-- what is put at the place a, up to r
+pub put-is : {o o₁ : List ℕ} (a r : ℕ) (t : List ℕ) → a ≤ length o → Filled o o₁ (take a o ++ t) r → (r ≡ a + length t) × (o₁ ≡ take a o ++ (t ++ drop r o))
+put-is {o} a r t h f =
+    (omega (arith, f .long, length-append (take a o) t, length-take-le a o h), f .holds ∙ append-assoc (take a o) t (drop r o))
+
+-- and what that makes of an output that is filled up to a
+pub filled-at : {o o₁ o₂ p : List ℕ} {a r : ℕ} → Filled o o₁ p a → (t : List ℕ) → length o₂ ≡ length o₁
+    → (r ≡ a + length t) × (o₂ ≡ take a o₁ ++ (t ++ drop r o₁)) → Filled o o₂ (p ++ t) r
+filled-at {o} {o₁} {o₂} {p} {a} {r} f t l e =
+    let u : take a o₁ ≡ p = ap (take a) (f .holds) ∙ take-at p (drop a o) a (f .long) in
+    let d : drop a o₁ ≡ drop a o = ap (drop a) (f .holds) ∙ drop-at p (drop a o) a (f .long) in
+    let v : drop r o₁ ≡ drop r o = rw (e .0, ← drop-drop (length t) a o₁, ← drop-drop (length t) a o, d) in
+    record {
+      holds = e .1 ∙ rw (u, v) (sym (append-assoc p t (drop r o)));
+      long = length-append p t ∙ omega (arith, f .long, e .0);
+      kept = l ∙ f .kept;
+    }
+
+-- a text that a writer answers for, and the other way round
+pub filled-by : {o o₁ t : List ℕ} {r : ℕ} → length o₁ ≡ length o → (r ≡ length t) × (o₁ ≡ t ++ drop r o) → Filled o o₁ t r
+filled-by l e = record { holds = e .1; long = sym (e .0); kept = l }
+
+pub filled-is : {o o₁ p : List ℕ} {r : ℕ} (t : List ℕ) → Filled o o₁ p r → p ≡ t → (r ≡ length t) × (o₁ ≡ t ++ drop r o)
+filled-is t f e = rw (← e) (sym (f .long), f .holds)
+
+-- ---- texts f 0, f 1, .., one after the other, behind h
+
+module _ (h : List ℕ) (f : ℕ → List ℕ) where
+  pub none-yet : h ++ joinTo 0 f ≡ h
+  none-yet = rw (join-none, append-nil)
+
+  pub one-more : (i : ℕ) → h ++ joinTo (i + 1) f ≡ h ++ joinTo i f ++ f i
+  one-more i = rw (join-more, append-assoc)
+
+  pub more-length : (i : ℕ) → length (h ++ joinTo (i + 1) f) ≡ length (h ++ joinTo i f) + length (f i)
+  more-length i = ap length (one-more i) ∙ length-append (h ++ joinTo i f) (f i)
+
+  pub filled-first : {o o₁ : List ℕ} {a : ℕ} → Filled o o₁ h a → Filled o o₁ (h ++ joinTo 0 f) a
+  filled-first q = rw none-yet q
+
+  -- i texts are written: there is room for the next if there is for all n
+  module _ {o o₁ : List ℕ} {a : ℕ} (i : ℕ) (q : Filled o o₁ (h ++ joinTo i f) a) where
+    pub next-room : (n : ℕ) → i < n → length (h ++ joinTo n f) ≤ length o → a + length (f i) ≤ length o₁
+    next-room n l z = omega (arith, q .long, q .kept, length-append h (joinTo i f), length-append h (joinTo n f), join-room n i f l)
+
+    pub filled-next : {ys : List ℕ} {k : ℕ} → length ys ≡ length (restAt o₁ a) → (k ≡ length (f i)) × (ys ≡ f i ++ drop k (restAt o₁ a))
+        → Filled o (backAt o₁ a ys) (h ++ joinTo (i + 1) f) (a + k)
+    filled-next g e = rw (one-more i) (filled-part q (f i) (filled-within q) (e .0) g (e .1))
+
+-- ---- how long a line is
+
+-- the fields, each with the space before it, and the LF
+abbrev widths : List (List ℕ) → ℕ
+widths [] = 1
+widths (w ∷ ws) = 1 + length w + widths ws
+
+ending-length : (ws : List (List ℕ)) → length (ending ws) ≡ widths ws
+ending-length [] = refl
+ending-length (w ∷ ws) = omega (arith, length-append w (ending ws), ending-length ws)
+
+module _ (K : ℕ) (p : Pair) where
+  pub use-length : length (useText K p) ≡ 8 + length (countText K) + length (countText (p .requests)) + length (timeText (p .longest)) + length (timeText (p .total))
+  unfolding useText
+  use-length = omega (arith, ending-length (countText K ∷ countText (p .requests) ∷ timeText (p .longest) ∷ timeText (p .total) ∷ []))
+
+  pub use-most : p .longest < 4_294_967_296 → p .total < 4_294_967_296 → length (useText K p) ≤ 50
+  use-most c ct =
+      omega (arith, use-length, count-length K, width-most K, count-length (p .requests), width-most (p .requests), time-length (p .longest) c, time-length (p .total) ct)
+
+module _ (x : Task) where
+  pub times-length : length (timesText x) ≡ 8 + length (timeText (x .period)) + length (timeText (x .run)) + length (timeText (x .deadline))
+  times-length = omega (arith, ending-length (timeText (x .period) ∷ timeText (x .run) ∷ timeText (x .deadline) ∷ []))
+
+  pub times-most : x .period < 4_294_967_296 → x .run < 4_294_967_296 → x .deadline < 4_294_967_296 → length (timesText x) ≤ 41
+  times-most t c d = omega (arith, times-length, time-length (x .period) t, time-length (x .run) c, time-length (x .deadline) d)
+
+module _ (t : Table) where
+  -- the first line
+  abbrev pub cpusText : List ℕ
+  cpusText = lineOf "cpus" (countText (t .cpus) ∷ [])
+
+  -- the lines of task i + 1
+  abbrev pub linesOf : ℕ → List ℕ
+  linesOf i = taskText (taskAt t i)
+
+  pub cpus-length : length cpusText ≡ 6 + length (countText (t .cpus))
+  cpus-length = omega (arith, ending-length (countText (t .cpus) ∷ []))
+
+-- ---- the line of a pair
+
+module _ (k : ℕ) (p : Pair) where
+  pub pair-unused : p .requests ≡ 0 → pick (ltb 0 (p .requests)) (useText (suc k) p) [] ≡ []
+  pair-unused e = rw e
+
+  pub pair-used : (p .requests ≡ 0 → ⊥) → pick (ltb 0 (p .requests)) (useText (suc k) p) [] ≡ useText (k + 1) p
+  pair-used h = rw (lt-ltb 0 (p .requests) (omega arith), add-one k)

@@ -1,0 +1,133 @@
+-- `writing::text::put_table` meets its contract. The loop's invariant: an output that the loop found filled with the first line is now filled with that line and the lines of the tasks passed. Assumes nothing.
+use Prim.Native.Nat.{ℕ, _+_, _-_, _≤_}
+use mathlib.Core.Path.{_≡_, ap}
+use mathlib.Core.List.{List, _∷_, _++_}
+use native.Mathlib.Omega.{arith}
+use lib.ListN.{length, length-append}
+use Rattle.basics.specs.Over.{joinTo}
+use Rattle.basics.specs.Text.{bytes}
+use Rattle.basics.proofs.FillLaws.{Filled, filled-none, rest-length}
+use Rattle.put.specs.Text.{countText}
+use Rattle.table.proofs.Acceptance.{fine-accepted}
+use Rattle.writing.specs.Write.{textOf}
+use Rattle.writing.proofs.WriteLaws.{filled-at, filled-is, filled-first, next-room, filled-next, cpusText, linesOf, cpus-length}
+use borrow.Author.Needs.{needs}
+use Rattle.writing.proofs.text.put_table.Statement.{statement}
+use Rattle.writing.proofs.text.put_table.Tie as tie
+
+abbrev Inv-loop : tie.InvT-loop
+Inv-loop out₀ t n a b at₀ i₀ out at i =
+    (i ≤ n) × ((o : List ℕ) → Filled o out₀ (cpusText t) at₀ → Filled o out (cpusText t ++ joinTo i (linesOf t)) at)
+
+abbrev μ-loop : tie.MeasureT-loop
+μ-loop out₀ t n a b at₀ i₀ out at i = n - i
+
+few : (s : tie.Start Inv-loop μ-loop) → s .args .t2 .n ≤ 32
+few s = fine-accepted (s .args .t2) (s .pre .0) .tasks-most
+
+first-room : (s : tie.Start Inv-loop μ-loop) → 6 + length (countText (s .args .t2 .cpus)) ≤ length (s .args .out .now)
+unfolding textOf
+first-room s =
+    let t = s .args .t2 in
+    omega (arith, s .pre .1, cpus-length t, length-append (cpusText t) (joinTo (t .n) (linesOf t)))
+
+abbrev start : tie.At-loop Inv-loop μ-loop → tie.Start Inv-loop μ-loop
+start l = l .before .before .before .before .before .before .before .before .before .before .before .before .before .before .before .before
+
+filled : (l : tie.At-loop Inv-loop μ-loop) → let a = start l .args in
+    Filled (a .out .now) (l .loop .out) (cpusText (a .t2) ++ joinTo (l .loop .i) (linesOf (a .t2))) (l .loop .at)
+filled l =
+    let e = l .before .before .before in
+    let m = e .before .before .before .before .before in
+    let w = m .before .before .before .before in
+    let a = w .before .before .before .before .args in
+    let f₁ = filled-at (filled-none (a .out .now)) (bytes "cpus") (w .put .kept .0) (w .put .ensures) in
+    let f₂ = filled-at f₁ (32 ∷ countText (a .t2 .cpus)) (m .put-count .kept .0) (m .put-count .ensures) in
+    l .loop .inv .1 (a .out .now) (filled-at f₂ (bytes "\n") (e .put2 .kept .0) (e .put2 .ensures))
+
+-- there is room for the next task's lines
+room : (c : tie.After-x Inv-loop μ-loop) → let l = c .before .before in
+    l .loop .at + length (linesOf (start l .args .t2) (l .loop .i)) ≤ length (l .loop .out)
+unfolding textOf
+room c =
+    let l = c .before .before in
+    let s = start l in
+    next-room (cpusText (s .args .t2)) (linesOf (s .args .t2)) (l .loop .i) (filled l) (s .args .t2 .n) (c .before .loop-test .taken) (s .pre .1)
+
+put-requires : tie.Need-put-requires Inv-loop μ-loop
+put-requires c κs = omega (arith, first-room (c .before .before .before))
+
+put-count-requires : tie.Need-put-count-requires Inv-loop μ-loop
+put-count-requires c κs = omega (arith, first-room (c .before .before .before .before .before .before .before))
+
+put-requires-2 : tie.Need-put-requires-2 Inv-loop μ-loop
+put-requires-2 c κs = omega (arith, first-room (c .before .before .before .before .before .before .before .before .before .before .before .before))
+
+loop-holds : tie.Need-loop-holds Inv-loop μ-loop
+loop-holds c =
+    let t = c .before .before .before .before .before .before .before .before .before .before .before .before .before .before .before .args .t2 in
+    (omega arith, λ o q. filled-first (cpusText t) (linesOf t) q)
+
+mul-x : tie.Need-mul-x Inv-loop μ-loop
+mul-x c = omega (arith, few (start (c .before)))
+
+element-copy-out-x : tie.Need-element-copy-out-x Inv-loop μ-loop
+element-copy-out-x c = omega (arith, few (start (c .before)))
+
+sub-put-task : tie.Need-sub-put-task Inv-loop μ-loop
+sub-put-task c = omega (arith, room c)
+
+part-put-task-start : tie.Need-part-put-task-start Inv-loop μ-loop
+part-put-task-start c = omega (arith, room c)
+
+put-task-requires : tie.Need-put-task-requires Inv-loop μ-loop
+put-task-requires c κs =
+    let l = c .before .before .before .loop in
+    omega (arith, room (c .before), rest-length (l .out) (l .at))
+
+add-at : tie.Need-add-at Inv-loop μ-loop
+add-at c =
+    let k = c .before .before .before .before in
+    omega (arith, room k, filled (k .before .before) .kept, start (k .before .before) .good .0)
+
+loop-again : tie.Need-loop-again Inv-loop μ-loop
+loop-again c =
+    let p = c .before .before in
+    let l = p .before .before .before .before in
+    let t = start l .args .t2 in
+    (omega arith, λ o q. filled-next (cpusText t) (linesOf t) (l .loop .i) (l .loop .inv .1 o q) (p .put-task .kept .0) (p .put-task .ensures))
+
+same-length : tie.Need-same-length Inv-loop μ-loop
+same-length c = filled (c .before) .kept
+
+returns : tie.Need-returns Inv-loop μ-loop
+unfolding textOf
+returns c =
+    let t = start (c .before) .args .t2 in
+    let e : c .before .loop .i ≡ t .n = omega arith in
+    filled-is (textOf t) (filled (c .before)) (ap (λ (k : ℕ). cpusText t ++ joinTo k (linesOf t)) e)
+
+pub put-table-spec : {M : Type 1} → statement M
+put-table-spec =
+    tie.close
+    (tie.spec
+    Inv-loop
+    μ-loop
+    (λ c. search needs)
+    put-requires
+    put-count-requires
+    (λ c. search needs)
+    put-requires-2
+    loop-holds
+    mul-x
+    element-copy-out-x
+    sub-put-task
+    part-put-task-start
+    (λ c. search needs)
+    put-task-requires
+    add-at
+    (λ c. search needs)
+    (λ c. search needs)
+    loop-again
+    same-length
+    returns)

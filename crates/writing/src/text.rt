@@ -1,0 +1,172 @@
+// The text of a table. Each writer here has the room for what it writes: `write` works the length out first.
+ghost use mathlib.Core.Path.{_≡_};
+ghost use mathlib.Core.List.{[], _∷_, _++_};
+ghost use Prim.Native.Nat.{suc, _+_, _<_, _≤_};
+ghost use lib.ListN.{length, take, drop};
+ghost use lib.Dec.{ltb};
+ghost use Rattle.basics.specs.Choice.{pick};
+ghost use Rattle.table.specs.Limits.{maxResources};
+ghost use Rattle.table.specs.declared.Checked.the-variants.{Fine};
+ghost use Rattle.table.specs.Rules.{tableFault};
+ghost use Rattle.put.specs.Text.{countText, timeText};
+ghost use Rattle.writing.specs.Write.{useText, timesText, taskText, textOf};
+use table::Pair;
+use table::Resource;
+use table::Table;
+use table::Task;
+
+// s, at a place of out. This and the next two answer the place behind what they put.
+fn put(out: &mut [u8], at: usize, s: &[u8]) -> usize
+    requires { ⌜ at + length (now s) ≤ length (now out) ⌝ }
+    ensures { λ r. ⌜ (r ≡ at + length (now (s .entry))) × (now (out .exit) ≡ take at (now (out .entry)) ++ (now (s .entry) ++ drop r (now (out .entry)))) ⌝ }
+{
+    at + put::put_text(&mut out[at..], s).length()
+}
+
+// A space and a count.
+fn put_count(out: &mut [u8], at: usize, n: u32) -> usize
+    requires { ⌜ at + length (countText n) < length (now out) ⌝ }
+    ensures { λ r. ⌜ (r ≡ at + length (32 ∷ countText n)) × (now (out .exit) ≡ take at (now (out .entry)) ++ ((32 ∷ countText n) ++ drop r (now (out .entry)))) ⌝ }
+{
+    out[at] = 32;
+    let rest = at + 1;
+    rest + put::put_count(&mut out[rest..], n).length()
+}
+
+// A space and a time.
+fn put_time(out: &mut [u8], at: usize, us: u32) -> usize
+    requires { ⌜ at + length (timeText us) < length (now out) ⌝ }
+    ensures { λ r. ⌜ (r ≡ at + length (32 ∷ timeText us)) × (now (out .exit) ≡ take at (now (out .entry)) ++ ((32 ∷ timeText us) ++ drop r (now (out .entry)))) ⌝ }
+{
+    out[at] = 32;
+    let rest = at + 1;
+    rest + put::put_time(&mut out[rest..], us).length()
+}
+
+fn use_len(k: Resource, p: Pair) -> usize
+    ensures { λ r. ⌜ r ≡ length (useText (k .0) p) ⌝ }
+    ensures { λ r. ⌜ r ≤ 50 ⌝ }
+{
+    8
+        + put::count_len(k.0)
+        + put::count_len(p.requests)
+        + put::time_len(p.longest)
+        + put::time_len(p.total)
+}
+
+// `use K N c CT`.
+fn put_use(out: &mut [u8], k: Resource, p: Pair) -> usize
+    requires { ⌜ length (useText (k .0) p) ≤ length (now out) ⌝ }
+    ensures { λ r. ⌜ (r ≡ length (useText (k .0) p)) × (now (out .exit) ≡ useText (k .0) p ++ drop r (now (out .entry))) ⌝ }
+{
+    let a = put(out, 0, b"use");
+    let b = put_count(out, a, k.0);
+    let c = put_count(out, b, p.requests);
+    let d = put_time(out, c, p.longest);
+    let e = put_time(out, d, p.total);
+    put(out, e, b"\n")
+}
+
+fn pair_len(k: usize, p: Pair) -> usize
+    requires { ⌜ k < maxResources ⌝ }
+    ensures { λ r. ⌜ r ≡ length (pick (ltb 0 (p .requests)) (useText (suc k) p) []) ⌝ }
+    ensures { λ r. ⌜ r ≤ 50 ⌝ }
+{
+    if p.requests == 0 {
+        return 0;
+    }
+    use_len(Resource((k + 1) as u32), p)
+}
+
+// The line of a pair in use; nothing of one that is not.
+fn put_pair(out: &mut [u8], k: usize, p: Pair) -> usize
+    requires { ⌜ (k < maxResources) × (length (pick (ltb 0 (p .requests)) (useText (suc k) p) []) ≤ length (now out)) ⌝ }
+    ensures { λ r. ⌜ (r ≡ length (pick (ltb 0 (p .requests)) (useText (suc k) p) [])) × (now (out .exit) ≡ pick (ltb 0 (p .requests)) (useText (suc k) p) [] ++ drop r (now (out .entry))) ⌝ }
+{
+    if p.requests == 0 {
+        return 0;
+    }
+    put_use(out, Resource((k + 1) as u32), p)
+}
+
+fn line_len(x: Task) -> usize
+    ensures { λ r. ⌜ r ≡ length (timesText x) ⌝ }
+    ensures { λ r. ⌜ r ≤ 41 ⌝ }
+{
+    8 + put::time_len(x.period) + put::time_len(x.run) + put::time_len(x.deadline)
+}
+
+// `task T C D`.
+fn put_line(out: &mut [u8], x: Task) -> usize
+    requires { ⌜ length (timesText x) ≤ length (now out) ⌝ }
+    ensures { λ r. ⌜ (r ≡ length (timesText x)) × (now (out .exit) ≡ timesText x ++ drop r (now (out .entry))) ⌝ }
+{
+    let a = put(out, 0, b"task");
+    let b = put_time(out, a, x.period);
+    let c = put_time(out, b, x.run);
+    let d = put_time(out, c, x.deadline);
+    put(out, d, b"\n")
+}
+
+fn task_len(x: Task) -> usize
+    ensures { λ r. ⌜ r ≡ length (taskText x) ⌝ }
+    ensures { λ r. ⌜ r ≤ 841 ⌝ }
+{
+    let mut sum = line_len(x);
+    let mut k: usize = 0;
+    while k < Table::MAX_RESOURCES {
+        let p = x.pairs[k];
+        sum += pair_len(k, p);
+        k += 1;
+    }
+    sum
+}
+
+// A task's line and the lines of its pairs, each into the rest of the output.
+fn put_task(out: &mut [u8], x: Task) -> usize
+    requires { ⌜ length (taskText x) ≤ length (now out) ⌝ }
+    ensures { λ r. ⌜ (r ≡ length (taskText x)) × (now (out .exit) ≡ taskText x ++ drop r (now (out .entry))) ⌝ }
+{
+    let mut at = put_line(out, x);
+    let mut k: usize = 0;
+    while k < Table::MAX_RESOURCES {
+        let p = x.pairs[k];
+        at += put_pair(&mut out[at..], k, p);
+        k += 1;
+    }
+    at
+}
+
+// How long the text of a table is.
+pub(crate) fn table_len(t: Table) -> usize
+    requires { ⌜ tableFault t ≡ Fine ⌝ }
+    ensures { λ r. ⌜ r ≡ length (textOf t) ⌝ }
+{
+    let n = t.n;
+    let mut sum = 6 + put::count_len(t.cpus);
+    let mut i: usize = 0;
+    while i < n {
+        let x = t.tasks[i];
+        sum += task_len(x);
+        i += 1;
+    }
+    sum
+}
+
+// `cpus M`, and each task's lines into the rest of the output.
+pub(crate) fn put_table(out: &mut [u8], t: Table) -> usize
+    requires { ⌜ (tableFault t ≡ Fine) × (length (textOf t) ≤ length (now out)) ⌝ }
+    ensures { λ r. ⌜ (r ≡ length (textOf t)) × (now (out .exit) ≡ textOf t ++ drop r (now (out .entry))) ⌝ }
+{
+    let n = t.n;
+    let a = put(out, 0, b"cpus");
+    let b = put_count(out, a, t.cpus);
+    let mut at = put(out, b, b"\n");
+    let mut i: usize = 0;
+    while i < n {
+        let x = t.tasks[i];
+        at += put_task(&mut out[at..], x);
+        i += 1;
+    }
+    at
+}
