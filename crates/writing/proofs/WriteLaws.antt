@@ -2,13 +2,14 @@
 -- Assumes nothing.
 use Prim.Native.Nat.{ℕ, suc, _+_, _≤_, _<_}
 use mathlib.Core.Path.{_≡_, refl, sym, ap, _∙_}
+use mathlib.Core.Bool.{true, false}
 use mathlib.Core.List.{List, [], _∷_, _++_, append-assoc, append-nil}
 use native.Mathlib.Omega.{arith}
 use native.Mathlib.Numerals.{add-one}
 use lib.ListN.{length, set, take, drop, length-append, take-append-drop}
 use lib.Seq.{take-at, drop-at, drop-drop, append-snoc, length-take-le}
 use lib.Dec.{ltb}
-use borrow.Author.Tests.{le-leb, lt-ltb}
+use borrow.Author.Tests.{le-leb}
 use Rattle.basics.specs.Choice.{pick}
 use Rattle.basics.specs.Over.{joinTo}
 use Rattle.basics.specs.Text.{putInto}
@@ -142,8 +143,8 @@ module _ (t : Table) where
 -- ---- the line of a pair
 
 module _ (k : ℕ) (p : Pair) where
-  pub pair-unused : p .requests ≡ 0 → pick (ltb 0 (p .requests)) (useText (suc k) p) [] ≡ []
+  pub pair-unused : ltb 0 (p .requests) ≡ false → pick (ltb 0 (p .requests)) (useText (suc k) p) [] ≡ []
   pair-unused e = rw e
 
-  pub pair-used : (p .requests ≡ 0 → ⊥) → pick (ltb 0 (p .requests)) (useText (suc k) p) [] ≡ useText (k + 1) p
-  pair-used h = rw (lt-ltb 0 (p .requests) (omega arith), add-one k)
+  pub pair-used : ltb 0 (p .requests) ≡ true → pick (ltb 0 (p .requests)) (useText (suc k) p) [] ≡ useText (k + 1) p
+  pair-used e = rw (e, add-one k)

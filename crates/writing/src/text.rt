@@ -67,15 +67,22 @@ fn put_use(out: &mut [u8], k: Resource, p: Pair) -> usize
     put(out, e, b"\n")
 }
 
+// Whether a pair is in use: it has a request.
+fn in_use(p: Pair) -> bool
+    ensures { λ r. ⌜ r ≡ ltb 0 (p .requests) ⌝ }
+{
+    0 < p.requests
+}
+
 fn pair_len(k: usize, p: Pair) -> usize
     requires { ⌜ k < maxResources ⌝ }
     ensures { λ r. ⌜ r ≡ length (pick (ltb 0 (p .requests)) (useText (suc k) p) []) ⌝ }
     ensures { λ r. ⌜ r ≤ 50 ⌝ }
 {
-    if p.requests == 0 {
-        return 0;
+    if in_use(p) {
+        return use_len(Resource((k + 1) as u32), p);
     }
-    use_len(Resource((k + 1) as u32), p)
+    0
 }
 
 // The line of a pair in use; nothing of one that is not.
@@ -83,10 +90,10 @@ fn put_pair(out: &mut [u8], k: usize, p: Pair) -> usize
     requires { ⌜ (k < maxResources) × (length (pick (ltb 0 (p .requests)) (useText (suc k) p) []) ≤ length (now out)) ⌝ }
     ensures { λ r. ⌜ (r ≡ length (pick (ltb 0 (p .requests)) (useText (suc k) p) [])) × (now (out .exit) ≡ pick (ltb 0 (p .requests)) (useText (suc k) p) [] ++ drop r (now (out .entry))) ⌝ }
 {
-    if p.requests == 0 {
-        return 0;
+    if in_use(p) {
+        return put_use(out, Resource((k + 1) as u32), p);
     }
-    put_use(out, Resource((k + 1) as u32), p)
+    0
 }
 
 fn line_len(x: Task) -> usize
