@@ -6,6 +6,7 @@ ghost use Rattle.analysis.specs.Shares.{sharesDemand, Sound, SoundShares
 ghost use Rattle.analysis.specs.Parts.{GoodPart, PartIs, LoadIs, PackedIs};
 use crate::shares::Share;
 use crate::shares::Shares;
+use crate::shares::wide;
 use table::Table;
 use theory::Verdict;
 
@@ -24,12 +25,6 @@ struct Packed {
     parts: usize,
     whole: [Part; Table::MAX_TASKS],
     part: [Part; 2 * Table::MAX_TASKS],
-}
-
-fn wide(x: u32) -> u64
-    ensures { λ r. ⌜ r ≡ x ⌝ }
-{
-    x as u64
 }
 
 fn least(a: u32, b: u32) -> u32

@@ -100,7 +100,7 @@ fn most(a: u32, b: u32) -> u32
     if a < b { b } else { a }
 }
 
-fn wide(x: u32) -> u64
+pub(crate) fn wide(x: u32) -> u64
     ensures { λ r. ⌜ r ≡ x ⌝ }
 {
     x as u64
