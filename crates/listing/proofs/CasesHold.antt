@@ -3,8 +3,9 @@ use mathlib.Core.Path.{refl}
 use Rattle.table.specs.Empty.{emptyTask, emptyTable}
 use Rattle.table.specs.Rules.{timesInRange, timesInOrder, timesFault, usedInRange, totalsFit}
 use Rattle.field.specs.Number.{fraction, timeField, countField}
-use Rattle.listing.specs.Lines.{fieldCount}
-use Rattle.listing.specs.Read.{cpusLine, taskLine, useLine, lineSays, pastAfter, newTask, tableAfter, readEnd, readLines, readListing}
+use Rattle.line.specs.Fields.{fieldCount}
+use Rattle.line.specs.Line.{cpusLine, taskLine, useLine, lineSays}
+use Rattle.listing.specs.Read.{pastAfter, newTask, tableAfter, readEnd, readLines, readListing}
 use Rattle.listing.specs.ReadCases.{cases, tableA, CasesHold}
 
 pub cases-hold : CasesHold

@@ -18,14 +18,15 @@ use Rattle.table.specs.declared.Checked.the-variants.{Refused}
 use Rattle.table.specs.Limits.{maxTasks, maxResources, maxTime, maxListing}
 use Rattle.table.specs.Empty.{emptyTable}
 use Rattle.field.proofs.Laws.{whole-part}
-use Rattle.listing.specs.declared.Past.{Past}
-use Rattle.listing.specs.declared.Said.{Said}
-use Rattle.listing.specs.declared.Said.the-variants.{Task as TaskLine, Use, Not}
+use Rattle.line.specs.declared.Past.{Past}
+use Rattle.line.specs.declared.Said.{Said}
+use Rattle.line.specs.declared.Said.the-variants.{Task as TaskLine, Use, Not}
 use Rattle.listing.specs.declared.Reading.{Reading}
 use Rattle.listing.specs.Lines.{line, lines, endsInLF}
-use Rattle.listing.specs.Read.{lineSays, fresh, pastAfter, tableAfter, refused, onSaid, readEnd, readLines, readListing}
+use Rattle.line.specs.Line.{lineSays}
+use Rattle.listing.specs.Read.{fresh, pastAfter, tableAfter, refused, onSaid, readEnd, readLines, readListing}
 use Rattle.listing.proofs.LineLaws.{line-within, line-take, lines-more, lines-none, endsInLF-more, endsInLF-open}
-use Rattle.listing.proofs.Says.{Line, is-cpus, is-task, is-use, is-not, line-is}
+use Rattle.line.proofs.Says.{Line, is-cpus, is-task, is-use, is-not, line-is}
 
 -- ---- what the lines so far leave
 

@@ -1,5 +1,5 @@
 -- A listing to a table (document 01, "The listing").
---   Lines      the lines of a listing, and the fields of a line
+--   Lines      the lines of a listing
 --   Read       what a listing says, or the first refusal and its place
 --   ReadCases  listings and what is read of each, computed
 --   Figures    the same said a second way: the figures that a listing states, their rules, their table

@@ -6,6 +6,8 @@ ghost use lib.ListN.{length};
 ghost use Rattle.table.specs.Limits.{maxResources, maxListing};
 ghost use Rattle.listing.specs.Lines.{line};
 ghost use Rattle.listing.specs.Read.{newTask, pastAfter, refused, withPair, readEnd, readListing};
+use line::Past;
+use line::Said;
 use table::Checked;
 use table::Fault;
 use table::Pair;
@@ -14,52 +16,32 @@ use table::Resource;
 use table::Table;
 use table::Task;
 
-mod line;
-
-// What the lines so far leave for the next one to be judged by: the tasks so far; and of the last of them its C, the K of its last
-// `use` line (0: none), and the sum of its CT.
-pub struct Past {
-    pub tasks: usize,
-    pub run: u32,
-    pub last: Resource,
-    pub sum: u32,
-}
-
-// What a line says, or why it is refused.
-pub enum Said {
-    Cpus(u32),
-    Task(u32, u32, u32),
-    Use(Resource, Pair),
-    Not(Refusal),
-}
-
 // The table that a listing says; or the refusal, with the empty table.
 pub struct Reading {
     pub answer: Checked,
     pub table: Table,
 }
 
-impl Past {
-    fn after(self, said: Said) -> Self
-        requires { ⌜ (pastAfter self said .tasks ≤ 32) × (pastAfter self said .sum ≤ 4294967295) ⌝ }
-        ensures { λ r. ⌜ r ≡ pastAfter self said ⌝ }
-    {
-        match said {
-            Said::Cpus(_) => self,
-            Said::Task(_, run, _) => Past {
-                tasks: self.tasks + 1,
-                run,
-                last: Resource(0),
-                sum: 0,
-            },
-            Said::Use(last, p) => Past {
-                tasks: self.tasks,
-                run: self.run,
-                last,
-                sum: self.sum + p.total,
-            },
-            Said::Not(_) => self,
-        }
+// What a line leaves for the next one to be judged by.
+fn after(past: Past, said: Said) -> Past
+    requires { ⌜ (pastAfter past said .tasks ≤ 32) × (pastAfter past said .sum ≤ 4294967295) ⌝ }
+    ensures { λ r. ⌜ r ≡ pastAfter past said ⌝ }
+{
+    match said {
+        Said::Cpus(_) => past,
+        Said::Task(_, run, _) => Past {
+            tasks: past.tasks + 1,
+            run,
+            last: Resource(0),
+            sum: 0,
+        },
+        Said::Use(last, p) => Past {
+            tasks: past.tasks,
+            run: past.run,
+            last,
+            sum: past.sum + p.total,
+        },
+        Said::Not(_) => past,
     }
 }
 
@@ -151,7 +133,7 @@ fn read_lines(listing: &[u8]) -> Reading
         }
         let said = line::line_of(past, number, &listing[at..end]);
         let tasks = past.tasks;
-        past = past.after(said);
+        past = after(past, said);
         number += 1;
         at = end + 1;
         match said {

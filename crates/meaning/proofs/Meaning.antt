@@ -15,13 +15,15 @@ use Rattle.table.specs.declared.Fault.the-variants.{TooLong}
 use Rattle.table.specs.Limits.{maxListing}
 use Rattle.table.specs.Empty.{emptyTable}
 use Rattle.table.proofs.Acceptance.{accepted-fine}
-use Rattle.listing.specs.declared.Said.{Said}
-use Rattle.listing.specs.declared.Said.the-variants.{Cpus}
-use Rattle.listing.specs.Lines.{form, lines, endsInLF}
-use Rattle.listing.specs.Read.{countIn, lineSays, fresh, pastAfter, tableAfter, accepted, refused, onSaid, readEnd, readLines, readListing}
+use Rattle.line.specs.declared.Said.{Said}
+use Rattle.line.specs.declared.Said.the-variants.{Cpus}
+use Rattle.line.specs.Fields.{form}
+use Rattle.listing.specs.Lines.{lines, endsInLF}
+use Rattle.line.specs.Line.{countIn, lineSays}
+use Rattle.listing.specs.Read.{fresh, pastAfter, tableAfter, accepted, refused, onSaid, readEnd, readLines, readListing}
 use Rattle.listing.specs.Figures.{UseFigures, Figures, StatesUses, StatesFigures, cpus-line, GoodUses, GoodFigures, tableOf}
 use Rattle.meaning.specs.Meaning.{Correct, Complete, PassesCheck}
-use Rattle.listing.proofs.Says.{CpusRules, Line, is-cpus, is-task, is-use, is-not, line-is}
+use Rattle.line.proofs.Says.{CpusRules, Line, is-cpus, is-task, is-use, is-not, line-is}
 use Rattle.meaning.proofs.SaysLaws.{says-cpus}
 use Rattle.meaning.proofs.SplitLaws.{Start, start-of, none, more, start-text, count-in, count-word, count-stated}
 use Rattle.meaning.proofs.TableLaws.{stored}

@@ -14,11 +14,12 @@ use Rattle.table.specs.declared.Table.{Table}
 use Rattle.table.specs.declared.Checked.the-variants.{Refused}
 use Rattle.table.specs.Limits.{maxListing}
 use Rattle.table.specs.Empty.{emptyTable}
-use Rattle.listing.specs.declared.Past.{Past}
-use Rattle.listing.specs.declared.Said.{Said}
-use Rattle.listing.specs.declared.Said.the-variants.{Cpus, Task as TaskLine, Use, Not}
+use Rattle.line.specs.declared.Past.{Past}
+use Rattle.line.specs.declared.Said.{Said}
+use Rattle.line.specs.declared.Said.the-variants.{Cpus, Task as TaskLine, Use, Not}
 use Rattle.listing.specs.declared.Reading.{Reading}
-use Rattle.listing.specs.Read.{accepted, refused, onSaid, lineSays, readEnd, readLines, readListing}
+use Rattle.listing.specs.Read.{accepted, refused, onSaid, readEnd, readLines, readListing}
+use Rattle.line.specs.Line.{lineSays}
 
 -- what a reading gives where it is refused, at its end and at each line
 end-empty : (t : Table) (past : Past) (n : ℕ) (c : Bool) (r : Refusal) → readEnd t past n c .answer ≡ Refused r → readEnd t past n c .table ≡ emptyTable

@@ -13,10 +13,11 @@ use Rattle.basics.specs.Choice.{pick}
 use Rattle.field.specs.Number.{apart, first, timeField, countField}
 use Rattle.field.specs.Spelling.{StatesTime, StatesCount}
 use Rattle.field.proofs.Spelled.{count-states, time-states, states-count, states-time, no-apart-count, no-apart-time, some-count, some-time}
-use Rattle.listing.specs.Lines.{others, fields, filled, fieldCount, same, form, onto, lines, endsInLF}
+use Rattle.line.specs.Fields.{others, fields, filled, fieldCount, same, form}
+use Rattle.listing.specs.Lines.{onto, lines, endsInLF}
 use Rattle.listing.specs.Figures.{ending}
-use Rattle.listing.proofs.FieldLaws.{form-fields}
-use Rattle.listing.proofs.Says.{Stated}
+use Rattle.line.proofs.FieldLaws.{form-fields}
+use Rattle.line.proofs.Says.{Stated}
 
 -- s is the line l, LF and the rest, and the fields of the line are w and ws
 pub record Row (l w : List ℕ) (ws : List (List ℕ)) (s rest : List ℕ) : Type 0 where

@@ -18,7 +18,7 @@ use Rattle.table.specs.declared.Resource.{Resource}
 use Rattle.table.specs.Limits.{maxTasks, maxResources}
 use Rattle.table.specs.Empty.{unusedPair, emptyTask}
 use Rattle.table.specs.At.{noTask}
-use Rattle.listing.specs.declared.Said.the-variants.{Task as TaskLine, Use}
+use Rattle.line.specs.declared.Said.the-variants.{Task as TaskLine, Use}
 use Rattle.listing.specs.Read.{newTask, withPair, tableAfter}
 use Rattle.listing.specs.Figures.{UseFigures, TaskFigures, GoodUses, GoodTaskFigures, GoodTasks, rowTo, pairFor, taskOf, taskFor, tableOf}
 

@@ -11,6 +11,7 @@ use Rattle.field.proofs.Determined.{time-determined, count-determined, ends-at-
 use Rattle.put.proofs.Determined.{put-time-determined, put-count-determined, put-text-determined, put-length-determined, count-len-determined, time-len-determined}
 use Rattle.put.proofs.PutLaws.{short-is}
 use Rattle.writing.specs.Write.{textOf, writeFault, written}
+use Rattle.line.proofs.Determined.{line-of-determined}
 use Rattle.listing.proofs.Determined.{read-determined}
 use Rattle.writing.proofs.Determined.{write-determined}
 use Rattle.meaning.proofs.Refused.{listing-empty}
@@ -49,6 +50,7 @@ determines =
       put-text = put-text-determined;
       put-time = put-time-determined;
       put-count = put-count-determined;
+      line-of = line-of-determined;
       read = read-determined;
       write = write-determined;
       bound = bound-determined;

@@ -14,8 +14,9 @@ use Rattle.table.specs.Faults.{firstFault}
 use Rattle.table.specs.Rules.{timesInRange, timesInOrder, timesFault, isUnused, usedInRange, pairInRange, totalsFit, pairFault, pairsFault, taskFault, tasksFault, tableFault}
 use Rattle.field.specs.Number.{fraction, timeField, countField}
 use Rattle.put.specs.Text.{width, countText}
-use Rattle.listing.specs.Lines.{fieldCount}
-use Rattle.listing.specs.Read.{cpusLine, taskLine, useLine, lineSays, pastAfter, newTask, tableAfter, readEnd, readLines, readListing}
+use Rattle.line.specs.Fields.{fieldCount}
+use Rattle.line.specs.Line.{cpusLine, taskLine, useLine, lineSays}
+use Rattle.listing.specs.Read.{pastAfter, newTask, tableAfter, readEnd, readLines, readListing}
 use Rattle.theory.specs.declared.Verdict.{Verdict}
 use Rattle.theory.specs.declared.Verdict.the-variants.{Meets, Misses}
 use Rattle.theory.specs.Work.{workload, jobs, ceilDiv}

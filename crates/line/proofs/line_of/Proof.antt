@@ -1,0 +1,67 @@
+-- `line::line_of` meets its contract. The tests are those of the definition, in its order, and each line's function gives what it says. Assumes nothing.
+use borrow.Author.Needs.{needs}
+use mathlib.Core.Path.{_≡_, sym, _∙_}
+use mathlib.Core.Bool.{false, _&&_}
+use lib.Dec.{eqb, ltb}
+use Rattle.basics.specs.Text.{bytes}
+use Rattle.basics.proofs.ChoiceLaws.{and-true}
+use Rattle.line.specs.Fields.{form}
+use Rattle.line.specs.Line.{lineSays}
+use Rattle.line.proofs.line_of.Statement.{statement}
+use Rattle.line.proofs.line_of.Tie as tie
+
+-- a test of the definition that failed
+not-cpus : (c : tie.Else1) → let a = c .before .before .before .before .args in
+    (form (bytes "cpus") 2 (a .line .now) && eqb (a .number) 1) ≡ false
+not-cpus c = sym (c .before .cpus-here .ensures) ∙ c .if1 .left
+
+not-task : (c : tie.Else2) → let a = c .before .before .before .before .before .before .args in
+    (form (bytes "task") 4 (a .line .now) && ltb 1 (a .number)) ≡ false
+not-task c = sym (c .before .task-here .ensures) ∙ c .if2 .left
+
+cpus-line-requires : tie.Need-cpus-line-requires
+cpus-line-requires c κs = and-true (form (bytes "cpus") 2 _) _ (sym (c .before .cpus-here .ensures) ∙ c .if1 .taken) .0
+
+returns : tie.Need-returns
+unfolding lineSays
+returns c = rw (sym (c .before .before .cpus-here .ensures) ∙ c .before .if1 .taken) (c .cpus-line .ensures)
+
+task-line-requires : tie.Need-task-line-requires
+task-line-requires c κs = and-true (form (bytes "task") 4 _) _ (sym (c .before .task-here .ensures) ∙ c .if2 .taken) .0
+
+returns-2 : tie.Need-returns-2
+unfolding lineSays
+returns-2 c =
+    let b = c .before .before in
+    rw (not-cpus (b .before), sym (b .task-here .ensures) ∙ c .before .if2 .taken) (c .task-line .ensures)
+
+use-line-requires : tie.Need-use-line-requires
+use-line-requires c κs = and-true (form (bytes "use") 5 _) _ (sym (c .before .use-here .ensures) ∙ c .if3 .taken) .0
+
+returns-3 : tie.Need-returns-3
+unfolding lineSays
+returns-3 c =
+    let b = c .before .before in
+    rw (not-cpus (b .before .before .before), not-task (b .before), sym (b .use-here .ensures) ∙ c .before .if3 .taken) (c .use-line .ensures)
+
+returns-4 : tie.Need-returns-4
+unfolding lineSays
+returns-4 c =
+    let b = c .before in
+    rw (not-cpus (b .before .before .before), not-task (b .before), sym (b .use-here .ensures) ∙ c .if3 .left)
+
+pub line-of-spec : {M : Type 1} → statement M
+line-of-spec =
+    tie.close
+    (tie.spec
+    (λ c κs. search needs)
+    (λ c κs. search needs)
+    cpus-line-requires
+    returns
+    (λ c κs. search needs)
+    task-line-requires
+    returns-2
+    (λ c κs. search needs)
+    use-line-requires
+    returns-3
+    returns-4)

@@ -1,0 +1,312 @@
+// One line of a listing: its form, its fields, and the rules in the paper's order.
+ghost use mathlib.Core.Path.{_≡_};
+ghost use mathlib.Core.Bool.{true, _&&_};
+ghost use Prim.Native.Nat.{_≤_};
+ghost use lib.ListN.{drop};
+ghost use lib.Dec.{eqb, ltb};
+ghost use Rattle.basics.specs.Text.{bytes};
+ghost use Rattle.field.specs.Number.{first, timeField, countField};
+ghost use Rattle.field.specs.declared.Field.the-variants.{Value};
+ghost use Rattle.line.specs.Fields.{fieldCount, same, form, placed};
+ghost use Rattle.line.specs.Line.{countIn, timeIn, cpusLine, taskLine, useLine, lineSays};
+use field::Field;
+use table::Checked;
+use table::Fault;
+use table::Pair;
+use table::Refusal;
+use table::Resource;
+use table::Table;
+
+const RESOURCES: u32 = Table::MAX_RESOURCES as u32;
+
+// What the lines so far leave for the next one to be judged by: the tasks so far; and of the last of them its C, the K of its last
+// `use` line (0: none), and the sum of its CT.
+pub struct Past {
+    pub tasks: usize,
+    pub run: u32,
+    pub last: Resource,
+    pub sum: u32,
+}
+
+// What a line says, or why it is refused.
+pub enum Said {
+    Cpus(u32),
+    Task(u32, u32, u32),
+    Use(Resource, Pair),
+    Not(Refusal),
+}
+
+// How many fields the line has, or 0 where one is empty.
+fn field_count(line: &[u8]) -> usize
+    ensures { λ r. ⌜ r ≡ fieldCount (now (line .entry)) ⌝ }
+{
+    let mut n: usize = 1;
+    let mut gap = true;
+    let mut i: usize = 0;
+    while i < line.len() {
+        let at = i;
+        i += 1;
+        if field::ends_at(line, at) {
+            if gap {
+                return 0;
+            }
+            n += 1;
+            gap = true;
+        } else {
+            gap = false;
+        }
+    }
+    if gap {
+        return 0;
+    }
+    n
+}
+
+// Whether two texts start with the same field.
+fn same_field(s: &[u8], w: &[u8]) -> bool
+    ensures { λ r. ⌜ r ≡ same (first (now (s .entry))) (first (now (w .entry))) ⌝ }
+{
+    let mut i: usize = 0;
+    while !field::ends_at(s, i) {
+        if field::ends_at(w, i) {
+            return false;
+        }
+        if s[i] != w[i] {
+            return false;
+        }
+        i += 1;
+    }
+    field::ends_at(w, i)
+}
+
+// Whether a line of n fields has k of them, the first of them the word.
+fn is_form(line: &[u8], n: usize, word: &[u8], k: usize) -> bool
+    requires { ⌜ n ≡ fieldCount (now line) ⌝ }
+    ensures { λ r. ⌜ r ≡ form (first (now (word .entry))) k (now (line .entry)) ⌝ }
+{
+    if n != k {
+        return false;
+    }
+    same_field(line, word)
+}
+
+// The time at a place of the line, with the place where the next field begins.
+fn time_at(line: &[u8], at: usize) -> Field
+    requires { ⌜ at ≤ 64 ⌝ }
+    ensures { λ r. ⌜ r ≡ placed at (timeField (drop at (now (line .entry)))) ⌝ }
+{
+    if line.len() <= at {
+        return Field::Bad;
+    }
+    let Field::Value(v, width) = field::time(&line[at..]) else {
+        return Field::Bad;
+    };
+    Field::Value(v, at + width + 1)
+}
+
+// The count at a place of the line, with the place where the next field begins.
+fn count_at(line: &[u8], at: usize) -> Field
+    requires { ⌜ at ≤ 64 ⌝ }
+    ensures { λ r. ⌜ r ≡ placed at (countField (drop at (now (line .entry)))) ⌝ }
+{
+    if line.len() <= at {
+        return Field::Bad;
+    }
+    let Field::Value(v, width) = field::count(&line[at..]) else {
+        return Field::Bad;
+    };
+    Field::Value(v, at + width + 1)
+}
+
+// 4, of the number of processors.
+fn cpus_of(number: u32, m: u32) -> Said
+    ensures { λ r. ⌜ r ≡ cpusLine number (Value m 0) ⌝ }
+{
+    if !table::rules::in_range(m, Table::MAX_CPUS) {
+        return Said::Not(Refusal {
+            fault: Fault::OutOfRange,
+            place: number,
+        });
+    }
+    Said::Cpus(m)
+}
+
+// 8, then 4 and 5, of a task.
+fn task_of(past: Past, number: u32, period: u32, run: u32, deadline: u32) -> Said
+    ensures { λ r. ⌜ r ≡ taskLine past number (Value period 0) (Value run 0) (Value deadline 0) ⌝ }
+{
+    if Table::MAX_TASKS <= past.tasks {
+        return Said::Not(Refusal {
+            fault: Fault::TooManyTasks,
+            place: number,
+        });
+    }
+    if let Checked::Refused(r) = table::rules::times(number, period, run, deadline) {
+        return Said::Not(r);
+    }
+    Said::Task(period, run, deadline)
+}
+
+// 4, 6, then 7, of a pair in use.
+fn use_of(past: Past, number: u32, k: Resource, p: Pair) -> Said
+    ensures { λ r. ⌜ r ≡ useLine past number (Value (k .0) 0) (Value (p .requests) 0) (Value (p .longest) 0) (Value (p .total) 0) ⌝ }
+{
+    if !table::rules::in_range(k.0, RESOURCES) {
+        return Said::Not(Refusal {
+            fault: Fault::OutOfRange,
+            place: number,
+        });
+    }
+    if !table::rules::used_in_range(p) {
+        return Said::Not(Refusal {
+            fault: Fault::OutOfRange,
+            place: number,
+        });
+    }
+    if k.0 <= past.last.0 {
+        return Said::Not(Refusal {
+            fault: Fault::NotRising,
+            place: number,
+        });
+    }
+    if !table::rules::totals_fit(p, past.sum as u64 + p.total as u64, past.run) {
+        return Said::Not(Refusal {
+            fault: Fault::BadTotals,
+            place: number,
+        });
+    }
+    Said::Use(k, p)
+}
+
+// `cpus M`.
+fn cpus_line(number: u32, line: &[u8]) -> Said
+    requires { ⌜ form (bytes "cpus") 2 (now line) ≡ true ⌝ }
+    ensures { λ r. ⌜ r ≡ cpusLine number (countIn (now (line .entry)) 1) ⌝ }
+{
+    let Field::Value(m, _) = count_at(line, 5) else {
+        return Said::Not(Refusal {
+            fault: Fault::BadField,
+            place: number,
+        });
+    };
+    cpus_of(number, m)
+}
+
+// `task T C D`.
+fn task_line(past: Past, number: u32, line: &[u8]) -> Said
+    requires { ⌜ form (bytes "task") 4 (now line) ≡ true ⌝ }
+    ensures { λ r. ⌜ r ≡ taskLine past number (timeIn (now (line .entry)) 1) (timeIn (now (line .entry)) 2) (timeIn (now (line .entry)) 3) ⌝ }
+{
+    let Field::Value(period, run_at) = time_at(line, 5) else {
+        return Said::Not(Refusal {
+            fault: Fault::BadField,
+            place: number,
+        });
+    };
+    let Field::Value(run, deadline_at) = time_at(line, run_at) else {
+        return Said::Not(Refusal {
+            fault: Fault::BadField,
+            place: number,
+        });
+    };
+    let Field::Value(deadline, _) = time_at(line, deadline_at) else {
+        return Said::Not(Refusal {
+            fault: Fault::BadField,
+            place: number,
+        });
+    };
+    task_of(past, number, period, run, deadline)
+}
+
+// `use K N c CT`.
+fn use_line(past: Past, number: u32, line: &[u8]) -> Said
+    requires { ⌜ form (bytes "use") 5 (now line) ≡ true ⌝ }
+    ensures { λ r. ⌜ r ≡ useLine past number (countIn (now (line .entry)) 1) (countIn (now (line .entry)) 2) (timeIn (now (line .entry)) 3) (timeIn (now (line .entry)) 4) ⌝ }
+{
+    let Field::Value(k, requests_at) = count_at(line, 4) else {
+        return Said::Not(Refusal {
+            fault: Fault::BadField,
+            place: number,
+        });
+    };
+    let Field::Value(requests, longest_at) = count_at(line, requests_at) else {
+        return Said::Not(Refusal {
+            fault: Fault::BadField,
+            place: number,
+        });
+    };
+    let Field::Value(longest, total_at) = time_at(line, longest_at) else {
+        return Said::Not(Refusal {
+            fault: Fault::BadField,
+            place: number,
+        });
+    };
+    let Field::Value(total, _) = time_at(line, total_at) else {
+        return Said::Not(Refusal {
+            fault: Fault::BadField,
+            place: number,
+        });
+    };
+    use_of(
+        past,
+        number,
+        Resource(k),
+        Pair {
+            requests,
+            longest,
+            total,
+        },
+    )
+}
+
+// `cpus` stands on the first line and nowhere else.
+fn cpus_here(line: &[u8], n: usize, number: u32) -> bool
+    requires { ⌜ n ≡ fieldCount (now line) ⌝ }
+    ensures { λ r. ⌜ r ≡ (form (bytes "cpus") 2 (now (line .entry)) && eqb number 1) ⌝ }
+{
+    if !is_form(line, n, b"cpus", 2) {
+        return false;
+    }
+    number == 1
+}
+
+fn task_here(line: &[u8], n: usize, number: u32) -> bool
+    requires { ⌜ n ≡ fieldCount (now line) ⌝ }
+    ensures { λ r. ⌜ r ≡ (form (bytes "task") 4 (now (line .entry)) && ltb 1 number) ⌝ }
+{
+    if !is_form(line, n, b"task", 4) {
+        return false;
+    }
+    1 < number
+}
+
+// `use` stands after a task.
+fn use_here(line: &[u8], n: usize, tasks: usize) -> bool
+    requires { ⌜ n ≡ fieldCount (now line) ⌝ }
+    ensures { λ r. ⌜ r ≡ (form (bytes "use") 5 (now (line .entry)) && ltb 0 tasks) ⌝ }
+{
+    if !is_form(line, n, b"use", 5) {
+        return false;
+    }
+    0 < tasks
+}
+
+// Line `number` of a listing.
+pub fn line_of(past: Past, number: u32, line: &[u8]) -> Said
+    ensures { λ r. ⌜ r ≡ lineSays past number (now (line .entry)) ⌝ }
+{
+    let n = field_count(line);
+    if cpus_here(line, n, number) {
+        return cpus_line(number, line);
+    }
+    if task_here(line, n, number) {
+        return task_line(past, number, line);
+    }
+    if use_here(line, n, past.tasks) {
+        return use_line(past, number, line);
+    }
+    Said::Not(Refusal {
+        fault: Fault::BadForm,
+        place: number,
+    })
+}

@@ -1,0 +1,45 @@
+-- `listing::after` meets its contract: one clause of the definition for each arm. Assumes nothing.
+use borrow.Author.Needs.{needs}
+use native.Mathlib.Omega.{arith}
+use Rattle.listing.specs.Read.{pastAfter}
+use Rattle.listing.proofs.after.Statement.{statement}
+use Rattle.listing.proofs.after.Tie as tie
+
+add-t7 : tie.Need-add-t7
+unfolding pastAfter
+add-t7 c = omega (arith, rw (c .before .before .said .given .1) at (c .before .before .before .before .pre .0))
+
+add-t9 : tie.Need-add-t9
+unfolding pastAfter
+add-t9 c = omega (arith, rw (c .before .before .before .said2 .given .1) at (c .before .before .before .before .before .pre .1))
+
+returns : tie.Need-returns
+unfolding pastAfter
+returns c = rw (c .enum-told .given .1)
+
+returns-2 : tie.Need-returns-2
+unfolding pastAfter
+returns-2 c = rw (c .before .before .said .given .1)
+
+returns-3 : tie.Need-returns-3
+unfolding pastAfter
+returns-3 c = rw (c .before .before .before .said2 .given .1)
+
+returns-4 : tie.Need-returns-4
+unfolding pastAfter
+returns-4 c = rw (c .enum-told2 .given .1)
+
+pub after-spec : {M : Type 1} → statement M
+after-spec =
+    tie.close
+    (tie.spec
+    (λ c. search needs)
+    (λ c. search needs)
+    add-t7
+    (λ c. search needs)
+    add-t9
+    (λ c. search needs)
+    returns
+    returns-2
+    returns-3
+    returns-4)
