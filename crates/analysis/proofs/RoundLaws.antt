@@ -12,10 +12,11 @@ use Rattle.theory.specs.Verdict.{verdictOf, Rises}
 use Rattle.theory.proofs.WorkLaws.{workload-rises, ceilDiv-rises}
 use Rattle.theory.proofs.VerdictLaws.{From, from-start, from-step, found, past, verdict-is}
 use Rattle.analysis.specs.declared.rounds.Part.{Part}
-use Rattle.analysis.specs.declared.rounds.Packed.{Packed}
+use Rattle.analysis.specs.declared.rounds.Wholes.{Wholes}
+use Rattle.analysis.specs.declared.rounds.Divided.{Divided}
 use Rattle.analysis.specs.declared.shares.Shares.{Shares}
 use Rattle.analysis.specs.Shares.{shareAt, wholeOf, partOf, sharesDemand, SoundShares}
-use Rattle.analysis.specs.Parts.{partAt, loadOf, LoadIs, PackedIs}
+use Rattle.analysis.specs.Parts.{partAt, loadOf, LoadIs, WholesAre, DividedAre}
 use Rattle.analysis.proofs.PackLaws.{loads}
 
 demand-base : (s : Shares) (t : ℕ) → s .base ≤ sharesDemand s t
@@ -63,14 +64,14 @@ summed-more {xs} {t} {i} h k =
 abbrev pub roundOf : Shares → ℕ → ℕ → ℕ
 roundOf s whole part = s .base + whole + (part + (s .cpus - 1)) / s .cpus
 
-pub round-is : {s : Shares} {x : Packed} {t i j whole part : ℕ} → PackedIs s x → 1 ≤ t
-    → Summed (x .whole) t i whole → i ≡ x .wholes → Summed (x .part) t j part → j ≡ x .parts
+pub round-is : {s : Shares} {x : Wholes} {y : Divided} {t i j whole part : ℕ} → WholesAre s x → DividedAre s y → 1 ≤ t
+    → Summed (x .of) t i whole → i ≡ x .n → Summed (y .of) t j part → j ≡ y .n
     → roundOf s whole part ≡ sharesDemand s t
 unfolding sharesDemand ceilDiv
-round-is {s} {x} {t} p h w a q b =
+round-is {s} {x} {y} {t} p d h w a q b =
     ap₂ (roundOf s)
-    (w .is ∙ ap (λ (n : ℕ). loads (x .whole) n t) a ∙ p .wholes-are t h)
-    (q .is ∙ ap (λ (n : ℕ). loads (x .part) n t) b ∙ p .parts-are t h)
+    (w .is ∙ ap (λ (n : ℕ). loads (x .of) n t) a ∙ p .are t h)
+    (q .is ∙ ap (λ (n : ℕ). loads (y .of) n t) b ∙ d .are t h)
 
 -- ---- the rounds
 

@@ -6,7 +6,8 @@ use lib.ListN.{getD}
 use Rattle.basics.specs.Over.{sumTo}
 use Rattle.theory.specs.Work.{jobs}
 use Rattle.analysis.specs.declared.rounds.Part.{Part}
-use Rattle.analysis.specs.declared.rounds.Packed.{Packed}
+use Rattle.analysis.specs.declared.rounds.Wholes.{Wholes}
+use Rattle.analysis.specs.declared.rounds.Divided.{Divided}
 use Rattle.analysis.specs.declared.shares.Shares.{Shares}
 use Rattle.analysis.specs.Shares.{shareAt, wholeOf, partOf}
 
@@ -39,10 +40,14 @@ pub record LoadIs (e : Part) (t r : ℕ) : Type 0 where
   pub is : r ≡ loadOf e t
   pub fits : r ≤ 20_000_000
 
-pub record PackedIs (s : Shares) (p : Packed) : Type 0 where
-  pub wholes-few : p .wholes ≤ 32
-  pub parts-few : p .parts ≤ 64
-  pub wholes-good : (j : ℕ) → j < p .wholes → GoodPart (partAt (p .whole) j)
-  pub parts-good : (j : ℕ) → j < p .parts → GoodPart (partAt (p .part) j)
-  pub wholes-are : (t : ℕ) → 1 ≤ t → sumTo (p .wholes) (λ j. loadOf (partAt (p .whole) j) t) ≡ sumTo (s .n) (λ l. wholeOf (shareAt s l) t)
-  pub parts-are : (t : ℕ) → 1 ≤ t → sumTo (p .parts) (λ j. loadOf (partAt (p .part) j) t) ≡ sumTo (s .n) (λ l. partOf (shareAt s l) t)
+-- the parts of the shares that count whole, those of no units left out, come to what the shares come to
+pub record WholesAre (s : Shares) (r : Wholes) : Type 0 where
+  pub few : r .n ≤ 32
+  pub good : (j : ℕ) → j < r .n → GoodPart (partAt (r .of) j)
+  pub are : (t : ℕ) → 1 ≤ t → sumTo (r .n) (λ j. loadOf (partAt (r .of) j) t) ≡ sumTo (s .n) (λ l. wholeOf (shareAt s l) t)
+
+-- and so do those that are divided
+pub record DividedAre (s : Shares) (r : Divided) : Type 0 where
+  pub few : r .n ≤ 64
+  pub good : (j : ℕ) → j < r .n → GoodPart (partAt (r .of) j)
+  pub are : (t : ℕ) → 1 ≤ t → sumTo (r .n) (λ j. loadOf (partAt (r .of) j) t) ≡ sumTo (s .n) (λ l. partOf (shareAt s l) t)

@@ -3,7 +3,7 @@ ghost use mathlib.Core.Path.{_≡_};
 ghost use Prim.Native.Nat.{_/_, _≤_, min};
 ghost use Rattle.theory.specs.Verdict.{verdictOf};
 ghost use Rattle.analysis.specs.Shares.{sharesDemand, Sound, SoundShares};
-ghost use Rattle.analysis.specs.Parts.{GoodPart, PartIs, LoadIs, PackedIs};
+ghost use Rattle.analysis.specs.Parts.{GoodPart, PartIs, LoadIs, WholesAre, DividedAre};
 use crate::shares::Share;
 use crate::shares::Shares;
 use crate::shares::wide;
@@ -19,12 +19,16 @@ struct Part {
     mul: u64,
 }
 
-// The shares that count, in front: those that count whole, and those that are divided by m.
-struct Packed {
-    wholes: usize,
-    parts: usize,
-    whole: [Part; Table::MAX_TASKS],
-    part: [Part; 2 * Table::MAX_TASKS],
+// The parts that count whole, in front of a row.
+struct Wholes {
+    n: usize,
+    of: [Part; Table::MAX_TASKS],
+}
+
+// The parts that are divided by m, in front of a row: two for each task at most.
+struct Divided {
+    n: usize,
+    of: [Part; 2 * Table::MAX_TASKS],
 }
 
 fn least(a: u32, b: u32) -> u32
@@ -86,10 +90,10 @@ fn load(e: Part, t: u32) -> u64
     wide(q * e.units + least(e.units, a - q * e.period))
 }
 
-// The parts of the shares, those of no units left out: each is stored at the end, and the end moves on if it counts.
-fn pack(s: Shares) -> Packed
+// The shares' parts that count whole, those of no units left out: each is stored at the end, and the end moves on if it counts.
+fn wholes_of(s: Shares) -> Wholes
     requires { ⌜ SoundShares s ⌝ }
-    ensures { λ r. ⌜ PackedIs s r ⌝ }
+    ensures { λ r. ⌜ WholesAre s r ⌝ }
 {
     let none = Part {
         period: 0,
@@ -98,28 +102,44 @@ fn pack(s: Shares) -> Packed
         shift: 0,
         mul: 0,
     };
-    let mut whole = [none; Table::MAX_TASKS];
-    let mut part = [none; 2 * Table::MAX_TASKS];
-    let n = s.n;
-    let mut w: usize = 0;
-    let mut p: usize = 0;
+    let mut of = [none; Table::MAX_TASKS];
+    let m = s.n;
+    let mut n: usize = 0;
     let mut k: usize = 0;
-    while k < n {
+    while k < m {
         let e = s.of[k];
-        whole[w] = part_of(e.period, e.deadline, e.whole);
-        w = w + some(e.whole);
-        part[p] = part_of(e.period, e.deadline, e.one);
-        p = p + some(e.one);
-        part[p] = part_of(e.period, e.deadline, e.two);
-        p = p + some(e.two);
+        of[n] = part_of(e.period, e.deadline, e.whole);
+        n = n + some(e.whole);
         k = k + 1;
     }
-    Packed {
-        wholes: w,
-        parts: p,
-        whole,
-        part,
+    Wholes { n, of }
+}
+
+// The same for the parts that are divided, two of each share.
+fn divided_of(s: Shares) -> Divided
+    requires { ⌜ SoundShares s ⌝ }
+    ensures { λ r. ⌜ DividedAre s r ⌝ }
+{
+    let none = Part {
+        period: 0,
+        units: 0,
+        off: 0,
+        shift: 0,
+        mul: 0,
+    };
+    let mut of = [none; 2 * Table::MAX_TASKS];
+    let m = s.n;
+    let mut n: usize = 0;
+    let mut k: usize = 0;
+    while k < m {
+        let e = s.of[k];
+        of[n] = part_of(e.period, e.deadline, e.one);
+        n = n + some(e.one);
+        of[n] = part_of(e.period, e.deadline, e.two);
+        n = n + some(e.two);
+        k = k + 1;
     }
+    Divided { n, of }
 }
 
 // The verdict for the shares of a task and its deadline: the lengths from C on, each the demand at the one before, until one repeats
@@ -128,23 +148,24 @@ pub(crate) fn verdict_of(s: Shares, deadline: u32) -> Verdict
     requires { ⌜ SoundShares s × (s .start ≤ deadline) × (deadline ≤ 10_000_000) ⌝ }
     ensures { λ r. ⌜ r ≡ verdictOf (sharesDemand s) deadline ⌝ }
 {
-    let x = pack(s);
-    let n = x.wholes;
-    let m = x.parts;
+    let w = wholes_of(s);
+    let d = divided_of(s);
+    let n = w.n;
+    let m = d.n;
     let last = wide(deadline);
     let mut t = s.start;
     loop {
         let mut whole: u64 = 0;
         let mut i: usize = 0;
         while i < n {
-            let e = x.whole[i];
+            let e = w.of[i];
             whole = whole + load(e, t);
             i = i + 1;
         }
         let mut part: u64 = 0;
         let mut j: usize = 0;
         while j < m {
-            let e = x.part[j];
+            let e = d.of[j];
             part = part + load(e, t);
             j = j + 1;
         }

@@ -2,8 +2,6 @@
 --   Lines      the lines of a listing
 --   Read       what a listing says, or the first refusal and its place
 --   ReadCases  listings and what is read of each, computed
---   Figures    the same said a second way: the figures that a listing states, their rules, their table
 pub mod Lines
 pub mod Read
 pub mod ReadCases
-pub mod Figures

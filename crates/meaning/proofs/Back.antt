@@ -21,7 +21,7 @@ use Rattle.put.specs.Text.{countText}
 use Rattle.meaning.proofs.FieldBack.{count-text}
 use Rattle.put.proofs.TimeLaws.{time-length}
 use Rattle.listing.specs.Read.{accepted}
-use Rattle.listing.specs.Figures.{TaskFigures, Figures, pairFor, taskOf, taskFor, tableOf}
+use Rattle.meaning.specs.Figures.{TaskFigures, Figures, pairFor, taskOf, taskFor, tableOf}
 use Rattle.writing.specs.Write.{useText, pairText, taskText, textOf}
 use Rattle.meaning.specs.Back.{clearedTask, cleared, TextFits, ReadsBack, ClearedSame, Rewrites, SameText}
 use Rattle.meaning.proofs.TableLaws.{row-at, row-eq, table}

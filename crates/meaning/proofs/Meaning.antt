@@ -21,7 +21,7 @@ use Rattle.line.specs.Fields.{form}
 use Rattle.listing.specs.Lines.{lines, endsInLF}
 use Rattle.line.specs.Line.{countIn, lineSays}
 use Rattle.listing.specs.Read.{fresh, pastAfter, tableAfter, accepted, refused, onSaid, readEnd, readLines, readListing}
-use Rattle.listing.specs.Figures.{UseFigures, Figures, StatesUses, StatesFigures, cpus-line, GoodUses, GoodFigures, tableOf}
+use Rattle.meaning.specs.Figures.{UseFigures, Figures, StatesUses, StatesFigures, cpus-line, GoodUses, GoodFigures, tableOf}
 use Rattle.meaning.specs.Meaning.{Correct, Complete, PassesCheck}
 use Rattle.line.proofs.Says.{CpusRules, Line, is-cpus, is-task, is-use, is-not, line-is}
 use Rattle.meaning.proofs.SaysLaws.{says-cpus}

@@ -10,7 +10,7 @@ use lib.ListN.{length}
 use lib.Dec.{ltb}
 use borrow.Author.Tests.{ltb-true, lt-ltb}
 use Rattle.basics.specs.Choice.{pick}
-use Rattle.basics.specs.Text.{bytes}
+use Rattle.basics.specs.Text.{bytes, lineOf}
 use Rattle.table.specs.declared.Pair.{Pair}
 use Rattle.table.specs.declared.Table.{Table}
 use Rattle.table.specs.declared.Resource.{Resource}
@@ -26,7 +26,7 @@ use Rattle.line.specs.Fields.{others, form}
 use Rattle.listing.specs.Lines.{lines, endsInLF}
 use Rattle.line.specs.Line.{countIn, timeIn, lineSays}
 use Rattle.listing.specs.Read.{fresh, pastAfter, tableAfter, accepted, refused, onSaid, readEnd, readLines}
-use Rattle.listing.specs.Figures.{UseFigures, TaskFigures, lineOf, StatesUses, use-line, StatesTasks, task-line, GoodUses, GoodTasks}
+use Rattle.meaning.specs.Figures.{UseFigures, TaskFigures, StatesUses, use-line, StatesTasks, task-line, GoodUses, GoodTasks}
 use Rattle.line.proofs.Says.{TaskRules, UseRules, Line, is-cpus, is-task, is-use, is-not, line-is}
 use Rattle.meaning.proofs.SaysLaws.{says-task, says-use}
 use Rattle.meaning.proofs.SplitLaws.{Start, start-of, no-line, Word, Words, none, more, row-line, row-form, listed, start-text, count-in, time-in, count-word, time-word, count-stated, time-stated}

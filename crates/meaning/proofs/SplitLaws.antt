@@ -15,7 +15,7 @@ use Rattle.field.specs.Spelling.{StatesTime, StatesCount}
 use Rattle.field.proofs.Spelled.{count-states, time-states, states-count, states-time, no-apart-count, no-apart-time, some-count, some-time}
 use Rattle.line.specs.Fields.{others, fields, filled, fieldCount, same, form}
 use Rattle.listing.specs.Lines.{onto, lines, endsInLF}
-use Rattle.listing.specs.Figures.{ending}
+use Rattle.basics.specs.Text.{ending}
 use Rattle.line.proofs.FieldLaws.{form-fields}
 use Rattle.line.proofs.Says.{Stated}
 

@@ -20,7 +20,7 @@ use Rattle.table.specs.Empty.{unusedPair, emptyTask}
 use Rattle.table.specs.At.{noTask}
 use Rattle.line.specs.declared.Said.the-variants.{Task as TaskLine, Use}
 use Rattle.listing.specs.Read.{newTask, withPair, tableAfter}
-use Rattle.listing.specs.Figures.{UseFigures, TaskFigures, GoodUses, GoodTaskFigures, GoodTasks, rowTo, pairFor, taskOf, taskFor, tableOf}
+use Rattle.meaning.specs.Figures.{UseFigures, TaskFigures, GoodUses, GoodTaskFigures, GoodTasks, rowTo, pairFor, taskOf, taskFor, tableOf}
 
 -- ---- a row by its places
 

@@ -20,7 +20,7 @@ use Rattle.table.specs.Empty.{unusedPair, emptyTask}
 use Rattle.table.specs.At.{taskAt, pairOf, totalOf}
 use Rattle.table.specs.Accepted.{GoodPair, GoodTask, Accepted}
 use Rattle.meaning.proofs.FieldBack.{count-text, time-text}
-use Rattle.listing.specs.Figures.{UseFigures, TaskFigures, Figures, StatesUses, StatesTasks, StatesFigures, cpus-line, GoodUses, GoodTasks, GoodFigures, pairFor, taskOf, taskFor, tableOf}
+use Rattle.meaning.specs.Figures.{UseFigures, TaskFigures, Figures, StatesUses, StatesTasks, StatesFigures, cpus-line, GoodUses, GoodTasks, GoodFigures, pairFor, taskOf, taskFor, tableOf}
 use Rattle.writing.specs.Write.{useText, pairText, taskText, textOf}
 use Rattle.meaning.specs.Back.{clearedTask, cleared}
 use Rattle.meaning.proofs.TableLaws.{row-eq}

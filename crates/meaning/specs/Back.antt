@@ -14,7 +14,7 @@ use Rattle.table.specs.At.{taskAt, pairOf, Same}
 use Rattle.table.specs.Rules.{tableFault}
 use Rattle.listing.specs.Read.{accepted, readListing}
 use Rattle.writing.specs.Write.{textOf}
-use Rattle.listing.specs.Figures.{rowTo}
+use Rattle.meaning.specs.Figures.{rowTo}
 
 -- a table with zeros past the nth task
 unfoldable pub clearedTask : Task → Task

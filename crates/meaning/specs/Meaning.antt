@@ -8,7 +8,7 @@ use Rattle.table.specs.declared.Checked.the-variants.{Fine}
 use Rattle.table.specs.Limits.{maxListing}
 use Rattle.table.specs.Rules.{tableFault}
 use Rattle.listing.specs.Read.{accepted, readListing}
-use Rattle.listing.specs.Figures.{Figures, StatesFigures, GoodFigures, tableOf}
+use Rattle.meaning.specs.Figures.{Figures, StatesFigures, GoodFigures, tableOf}
 
 -- an accepted listing states figures that obey the rules, and its table holds exactly those
 abbrev pub Correct : Type 0

@@ -12,7 +12,7 @@ use lib.Dec.{ltb}
 use borrow.Author.Tests.{le-leb}
 use Rattle.basics.specs.Choice.{pick}
 use Rattle.basics.specs.Over.{joinTo}
-use Rattle.basics.specs.Text.{putInto}
+use Rattle.basics.specs.Text.{putInto, ending, lineOf}
 use Rattle.basics.proofs.OverLaws.{join-none, join-more, join-room}
 use Rattle.basics.proofs.FillLaws.{restAt, backAt, rest-length, Filled, filled-part, filled-byte}
 use Rattle.put.specs.declared.Put.{Put}
@@ -23,7 +23,6 @@ use Rattle.table.specs.declared.Pair.{Pair}
 use Rattle.table.specs.declared.Task.{Task}
 use Rattle.table.specs.declared.Table.{Table}
 use Rattle.table.specs.At.{taskAt}
-use Rattle.listing.specs.Figures.{ending, lineOf}
 use Rattle.writing.specs.Write.{useText, timesText, taskText}
 
 -- ---- a text put at a place

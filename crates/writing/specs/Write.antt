@@ -19,7 +19,7 @@ use Rattle.table.specs.Rules.{tableFault}
 use Rattle.put.specs.Text.{countText, timeText}
 use Rattle.writing.specs.declared.Written.{Written}
 use Rattle.writing.specs.declared.Written.the-variants.{Wrote, NotWritten}
-use Rattle.listing.specs.Figures.{lineOf}
+use Rattle.basics.specs.Text.{lineOf}
 
 -- ---- the text of a table
 

@@ -1,13 +1,12 @@
 -- The reading of an accepted listing said a second way, without reading it: the figures that a listing's lines state, the rules that
 -- they obey, and the table that holds them.
 use Prim.Native.Nat.{ℕ, zero, suc, _+_, _≤_, _<_}
-use Prim.Native.String.{String}
 use mathlib.Core.Path.{_≡_}
 use mathlib.Core.List.{List, [], _∷_, _++_}
 use lib.ListN.{length}
 use lib.Dec.{eqb}
 use Rattle.basics.specs.Choice.{pick}
-use Rattle.basics.specs.Text.{bytes}
+use Rattle.basics.specs.Text.{lineOf}
 use Rattle.table.specs.declared.Pair.{Pair}
 use Rattle.table.specs.declared.Task.{Task}
 use Rattle.table.specs.declared.Table.{Table}
@@ -34,15 +33,6 @@ pub record Figures : Type 0 where
   pub tasks : List TaskFigures
 
 -- ---- which listings state them: `cpus M`, then each task followed by its `use` lines
-
--- fields, each after exactly one space, and the LF
-abbrev pub ending : List (List ℕ) → List ℕ
-ending [] = 10 ∷ []
-ending (w ∷ ws) = 32 ∷ (w ++ ending ws)
-
--- a line of a word and fields
-abbrev pub lineOf : String → List (List ℕ) → List ℕ
-lineOf word ws = bytes word ++ ending ws
 
 pub data StatesUses : List ℕ → List UseFigures → Type 0 where
   no-use : StatesUses [] []
