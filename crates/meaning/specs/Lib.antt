@@ -1,4 +1,4 @@
--- What reading and writing mean, as statements over the definitions of `listing`.
+-- What reading and writing mean, as statements over the definitions of `line`, `listing` and `writing`.
 --   Figures   the reading of an accepted listing said a second way: the figures that its lines state, their rules, their table
 --   Meaning   reading: correct, complete, and what it accepts the check of a table accepts
 --   Back      writing: what is written reads back
