@@ -10,7 +10,7 @@ use borrow.Author.Tests.{ltb-true, ltb-false, lt-ltb, le-ltb}
 use lib.Dec.{ltb}
 use lib.ListN.{replicate, getD-replicate}
 use Rattle.basics.specs.Choice.{pick}
-use Rattle.basics.proofs.OverLaws.{sum-none, sum-more}
+use Rattle.basics.proofs.SumLaws.{sum-none, sum-more}
 use Rattle.table.specs.declared.Level.{Level}
 use Rattle.table.specs.declared.Table.{Table}
 use Rattle.table.specs.Limits.{maxTasks, maxResources}

@@ -9,7 +9,7 @@ use native.Mathlib.Omega.{arith}
 use lib.ListN.{length, set, length-set}
 use lib.Seq.{getD-set-same, getD-set-other}
 use Rattle.basics.specs.Over.{sumTo}
-use Rattle.basics.proofs.OverLaws.{sum-none, sum-more, sum-eq}
+use Rattle.basics.proofs.SumLaws.{sum-none, sum-more, sum-eq}
 use Rattle.theory.specs.Work.{workload}
 use Rattle.theory.proofs.WorkLaws.{workload-none}
 use Rattle.analysis.specs.declared.rounds.Part.{Part}

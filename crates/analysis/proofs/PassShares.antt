@@ -12,7 +12,7 @@ use lib.Dec.{leb}
 use lib.ListN.{set}
 use lib.Seq.{getD-set-same, getD-set-other}
 use Rattle.basics.specs.Choice.{pick, only}
-use Rattle.basics.proofs.OverLaws.{sum-eq}
+use Rattle.basics.proofs.SumLaws.{sum-eq}
 use Rattle.table.specs.declared.Table.{Table}
 use Rattle.table.specs.Limits.{maxTasks, maxResources}
 use Rattle.table.specs.At.{taskAt}

@@ -7,12 +7,13 @@ use borrow.Author.Tests.{lt-ltb}
 use lib.ListN.{replicate, getD-replicate}
 use Rattle.basics.specs.Over.{sumTo}
 use Rattle.basics.proofs.ChoiceLaws.{only-below}
-use Rattle.basics.proofs.OverLaws.{sum-eq, max-more, max-bound}
+use Rattle.basics.proofs.SumLaws.{sum-eq}
+use Rattle.basics.proofs.MaxLaws.{max-more, max-bound}
 use Rattle.table.specs.declared.Table.{Table}
 use Rattle.table.specs.Limits.{maxResources, maxTime}
 use Rattle.table.specs.At.{taskAt, pairAt}
 use Rattle.table.specs.Accepted.{Accepted}
-use Rattle.table.proofs.Acceptance.{pair-bounds}
+use Rattle.table.proofs.RuleLaws.{pair-bounds}
 use Rattle.theory.specs.View.{level, resource, isAbove, largestBelow}
 use Rattle.theory.specs.Demand.{DB}
 use Rattle.theory.proofs.PassLaws.{largest-none, where-used}

@@ -8,7 +8,7 @@ use native.Mathlib.Omega.{arith}
 use lib.Dec.{T as Holds, leb, ltb→lt}
 use Rattle.basics.specs.Choice.{pick, only}
 use Rattle.basics.specs.Over.{sumTo}
-use Rattle.basics.proofs.OverLaws.{sum-eq, sum-add, sum-bound}
+use Rattle.basics.proofs.SumLaws.{sum-eq, sum-add, sum-bound}
 use Rattle.table.specs.declared.Level.{Level}
 use Rattle.theory.specs.Work.{workload, ceilDiv}
 use Rattle.theory.specs.View.{View, level, isAbove}

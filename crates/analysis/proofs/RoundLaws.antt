@@ -5,7 +5,7 @@ use mathlib.Core.Path.{_≡_, sym, ap, ap₂, _∙_}
 use mathlib.Core.List.{List}
 use native.Mathlib.Nat.{le-refl, le-trans, add-le-add}
 use native.Mathlib.Omega.{arith}
-use Rattle.basics.proofs.OverLaws.{sum-none, sum-more, sum-le}
+use Rattle.basics.proofs.SumLaws.{sum-none, sum-more, sum-le}
 use Rattle.theory.specs.declared.Verdict.the-variants.{Meets, Misses}
 use Rattle.theory.specs.Work.{workload, ceilDiv}
 use Rattle.theory.specs.Verdict.{verdictOf, Rises}

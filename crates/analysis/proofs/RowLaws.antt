@@ -25,7 +25,8 @@ use Rattle.table.specs.declared.Checked.{Checked}
 use Rattle.table.specs.declared.Checked.the-variants.{Fine, Refused}
 use Rattle.table.specs.Rules.{tableFault}
 use Rattle.table.proofs.FirstLaws.{then-fine}
-use Rattle.table.proofs.Acceptance.{unless-fine, fine-accepted}
+use Rattle.table.proofs.RuleLaws.{unless-fine}
+use Rattle.table.proofs.Acceptance.{fine-accepted}
 use Rattle.analysis.specs.declared.Record.{Record}
 use Rattle.analysis.specs.Answers.{analysisFault, orNone, written, recordOf, records, analysed}
 

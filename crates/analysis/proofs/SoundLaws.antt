@@ -9,7 +9,7 @@ use lib.Dec.{leb}
 use Rattle.basics.specs.Choice.{pick, only}
 use Rattle.basics.specs.Over.{sumTo}
 use Rattle.basics.proofs.ChoiceLaws.{only-below}
-use Rattle.basics.proofs.OverLaws.{sum-more, sum-rises, sum-le}
+use Rattle.basics.proofs.SumLaws.{sum-more, sum-rises, sum-le}
 use Rattle.table.specs.declared.Task.{Task}
 use Rattle.table.specs.declared.Table.{Table}
 use Rattle.table.specs.Limits.{maxResources, maxTime}

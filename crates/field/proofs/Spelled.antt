@@ -13,8 +13,9 @@ use Rattle.basics.proofs.ChoiceLaws.{within-in}
 use Rattle.field.specs.declared.Field.the-variants.{Value}
 use Rattle.field.specs.Number.{isDigit, digits, number, first, ends, micros, fraction, timeField, countField}
 use Rattle.field.specs.Spelling.{Digits, none, one, valueOf, DigitsTo, StatesTime, whole, pointed, StatesCount}
-use Rattle.field.proofs.Laws.{padded-number, micros-whole}
-use Rattle.field.proofs.Fields.{digit-in, first-none, count-first, time-first, AllDigits, count-read, TimeRead, read-whole, read-pointed, time-read}
+use Rattle.field.proofs.DigitLaws.{padded-number, micros-whole}
+use Rattle.field.proofs.FirstLaws.{digit-in, first-none, count-first, time-first}
+use Rattle.field.proofs.ReadLaws.{AllDigits, count-read, TimeRead, read-whole, read-pointed, time-read}
 
 -- ---- the number
 

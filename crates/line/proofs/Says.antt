@@ -1,73 +1,33 @@
--- What a line is that says something: its form, its place, its fields, and the rules that it obeys; and the other way round.
+-- What a line is that says something.
 -- Assumes nothing.
-use Prim.Native.Nat.{ℕ, _+_, _≤_, _<_}
-use mathlib.Core.Path.{_≡_, refl, sym, ap, _∙_}
+use Prim.Native.Nat.{ℕ, _+_}
+use mathlib.Core.Path.{_≡_, refl}
 use mathlib.Core.Bool.{Bool, true, false, _&&_}
 use mathlib.Core.List.{List}
-use native.Mathlib.Omega.{arith}
-use borrow.Author.Tests.{eqb-true, eq-eqb, ne-eqb, ltb-true, lt-ltb, le-ltb}
+use borrow.Author.Tests.{eqb-true, ltb-true}
 use lib.Dec.{ltb, eqb}
 use Rattle.basics.specs.Choice.{pick, within}
 use Rattle.basics.specs.Text.{bytes}
-use Rattle.basics.proofs.ChoiceLaws.{and-true, within-true, within-in}
+use Rattle.basics.proofs.ChoiceLaws.{and-true, within-true}
 use Rattle.table.specs.declared.Pair.{Pair}
 use Rattle.table.specs.declared.Refusal.{Refusal}
 use Rattle.table.specs.declared.Resource.{Resource}
-use Rattle.table.specs.declared.Fault.the-variants.{BadForm, BadField, OutOfRange, NotRising, BadTotals, TooManyTasks}
+use Rattle.table.specs.declared.Fault.the-variants.{BadField, OutOfRange, NotRising, BadTotals, TooManyTasks}
 use Rattle.table.specs.declared.Checked.{Checked}
 use Rattle.table.specs.declared.Checked.the-variants.{Fine, Refused}
-use Rattle.table.specs.Limits.{maxCpus, maxTasks, maxResources, maxTime}
+use Rattle.table.specs.Limits.{maxCpus, maxTasks, maxResources}
 use Rattle.table.specs.Faults.{_then_, unless}
 use Rattle.table.specs.Rules.{timesFault, usedInRange, totalsFit}
-use Rattle.table.specs.Accepted.{GoodTimes, GoodPair}
 use Rattle.table.proofs.FirstLaws.{then-fine}
-use Rattle.table.proofs.Acceptance.{unless-fine, times-good, times-fine, used-good, used-range, used-totals}
+use Rattle.table.proofs.RuleLaws.{unless-fine, times-good, used-good}
 use Rattle.field.specs.declared.Field.{Field}
 use Rattle.field.specs.declared.Field.the-variants.{Value, Bad}
 use Rattle.line.specs.declared.Past.{Past}
 use Rattle.line.specs.declared.Said.{Said}
 use Rattle.line.specs.declared.Said.the-variants.{Cpus, Task as TaskLine, Use, Not}
 use Rattle.line.specs.Fields.{form}
-use Rattle.line.specs.Line.{formed, value, _gives_, cpusLine, taskLine, useLine, countIn, timeIn, lineSays}
-
--- a field that states a number
-pub record Stated (f : Field) (v : ℕ) : Type 0 where
-  pub width : ℕ
-  pub is : f ≡ Value v width
-
--- ---- each kind of line, by its rules
-
-pub record CpusRules (f : Field) (M : ℕ) : Type 0 where
-  pub field : Stated f M
-  pub least : 1 ≤ M
-  pub most : M ≤ maxCpus
-
-pub record TaskRules (past : Past) (f g h : Field) (T C D : ℕ) : Type 0 where
-  pub period : Stated f T
-  pub run : Stated g C
-  pub deadline : Stated h D
-  pub room : past .tasks < maxTasks
-  pub times : GoodTimes T C D
-
-pub record UseRules (past : Past) (f g h i : Field) (K : Resource) (p : Pair) : Type 0 where
-  pub resource : Stated f (K .0)
-  pub requests : Stated g (p .requests)
-  pub longest : Stated h (p .longest)
-  pub total : Stated i (p .total)
-  pub least : 1 ≤ K .0
-  pub most : K .0 ≤ maxResources
-  pub rising : past .last .0 < K .0
-  pub good : GoodPair p
-  pub fits : past .sum + p .total ≤ past .run
-
--- what a line is that says this
-pub data Line (past : Past) (n : ℕ) (s : List ℕ) : Said → Type 0 where
-  is-cpus : {M : ℕ} → form (bytes "cpus") 2 s ≡ true → n ≡ 1 → CpusRules (countIn s 1) M → Line past n s (Cpus M)
-  is-task : {T C D : ℕ} → form (bytes "task") 4 s ≡ true → 1 < n → TaskRules past (timeIn s 1) (timeIn s 2) (timeIn s 3) T C D
-      → Line past n s (TaskLine T C D)
-  is-use : {K : Resource} {p : Pair} → form (bytes "use") 5 s ≡ true → 0 < past .tasks
-      → UseRules past (countIn s 1) (countIn s 2) (timeIn s 3) (timeIn s 4) K p → Line past n s (Use K p)
-  is-not : (r : Refusal) → Line past n s (Not r)
+use Rattle.line.specs.Line.{formed, value, _gives_, cpusLine, taskLine, useLine, lineSays}
+use Rattle.line.proofs.LineRules.{Stated, CpusRules, TaskRules, UseRules, Line, is-cpus, is-task, is-use, is-not}
 
 -- ---- from what is said to the rules
 

@@ -17,7 +17,7 @@ use Rattle.table.specs.declared.Fault.the-variants.{BadForm}
 use Rattle.table.specs.declared.Checked.the-variants.{Refused}
 use Rattle.table.specs.Limits.{maxTasks, maxResources, maxTime, maxListing}
 use Rattle.table.specs.Empty.{emptyTable}
-use Rattle.field.proofs.Laws.{whole-part}
+use Rattle.basics.proofs.FillLaws.{whole-part}
 use Rattle.line.specs.declared.Past.{Past}
 use Rattle.line.specs.declared.Said.{Said}
 use Rattle.line.specs.declared.Said.the-variants.{Task as TaskLine, Use, Not}
@@ -26,7 +26,8 @@ use Rattle.listing.specs.Lines.{line, lines, endsInLF}
 use Rattle.line.specs.Line.{lineSays}
 use Rattle.listing.specs.Read.{fresh, pastAfter, tableAfter, refused, onSaid, readEnd, readLines, readListing}
 use Rattle.listing.proofs.LineLaws.{line-within, line-take, lines-more, lines-none, endsInLF-more, endsInLF-open}
-use Rattle.line.proofs.Says.{Line, is-cpus, is-task, is-use, is-not, line-is}
+use Rattle.line.proofs.LineRules.{Line, is-cpus, is-task, is-use, is-not}
+use Rattle.line.proofs.Says.{line-is}
 
 -- ---- what the lines so far leave
 

@@ -9,14 +9,15 @@ use lib.ListN.{length, length-append}
 use lib.Dec.{ltb, leb·suc-suc}
 use borrow.Author.Tests.{lt-ltb, le-ltb}
 use Rattle.basics.specs.Choice.{pick}
-use Rattle.basics.proofs.OverLaws.{join-eq, join-bound}
+use Rattle.basics.proofs.JoinLaws.{join-eq, join-bound}
 use Rattle.table.specs.declared.Pair.{Pair}
 use Rattle.table.specs.declared.Task.{Task}
 use Rattle.table.specs.Limits.{maxTasks, maxResources}
 use Rattle.table.specs.Empty.{unusedPair, emptyTask}
 use Rattle.table.specs.At.{noTask, taskAt, pairOf, SameTask}
 use Rattle.table.specs.Accepted.{PairBounds, GoodTask}
-use Rattle.table.proofs.Acceptance.{pair-bounds, fine-accepted}
+use Rattle.table.proofs.RuleLaws.{pair-bounds}
+use Rattle.table.proofs.Acceptance.{fine-accepted}
 use Rattle.put.specs.Text.{countText}
 use Rattle.meaning.proofs.FieldBack.{count-text}
 use Rattle.put.proofs.TimeLaws.{time-length}
@@ -24,7 +25,8 @@ use Rattle.listing.specs.Read.{accepted}
 use Rattle.meaning.specs.Figures.{TaskFigures, Figures, pairFor, taskOf, taskFor, tableOf}
 use Rattle.writing.specs.Write.{useText, pairText, taskText, textOf}
 use Rattle.meaning.specs.Back.{clearedTask, cleared, TextFits, ReadsBack, ClearedSame, Rewrites, SameText}
-use Rattle.meaning.proofs.TableLaws.{row-at, row-eq, table}
+use Rattle.meaning.proofs.PairRows.{row-at, row-eq}
+use Rattle.meaning.proofs.TableLaws.{table}
 use Rattle.meaning.proofs.Meaning.{correct, complete, passes-check}
 use Rattle.meaning.proofs.TextFigures.{text-states}
 

@@ -14,7 +14,7 @@ use Rattle.field.specs.Number.{number, ends, timeField, countField}
 use Rattle.field.specs.Spelling.{Digits, none, one, valueOf, DigitsTo, StatesTime, whole, StatesCount}
 use Rattle.field.specs.Spelling
 use Rattle.put.specs.Text.{digitsOf, width, countText, timeText}
-use Rattle.field.proofs.Laws.{number-append}
+use Rattle.field.proofs.DigitLaws.{number-append}
 use Rattle.field.proofs.Spelled.{value-number, states-count, states-time, no-apart-count, no-apart-time}
 use Rattle.put.proofs.TextLaws.{width-least, width-few, width-enough, digits-length}
 use Rattle.put.proofs.TimeLaws.{Trimmed, trimmed, time-plain, time-point}

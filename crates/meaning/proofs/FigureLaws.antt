@@ -12,14 +12,14 @@ use lib.Dec.{eqb}
 use borrow.Author.Tests.{eqb-true}
 use Rattle.basics.specs.Choice.{pick, only}
 use Rattle.basics.specs.Over.{sumTo}
-use Rattle.basics.proofs.OverLaws.{sum-le, sum-add, sum-eq, sum-bound}
+use Rattle.basics.proofs.SumLaws.{sum-le, sum-add, sum-eq, sum-bound}
 use Rattle.table.specs.declared.Pair.{Pair}
 use Rattle.table.specs.Limits.{maxTasks, maxResources}
 use Rattle.table.specs.Empty.{unusedPair}
 use Rattle.table.specs.At.{noTask, totalOf}
 use Rattle.table.specs.Accepted.{GoodPair, GoodTask, Accepted}
 use Rattle.meaning.specs.Figures.{UseFigures, TaskFigures, Figures, GoodUses, GoodTaskFigures, GoodTasks, GoodFigures, pairFor, taskOf, taskFor, tableOf}
-use Rattle.meaning.proofs.TableLaws.{row-at}
+use Rattle.meaning.proofs.PairRows.{row-at}
 
 good-pair : {C last sum : ℕ} {us : List UseFigures} (k : ℕ) → GoodUses C last sum us → (pairFor us k ≡ unusedPair) ⊎ GoodPair (pairFor us k)
 good-pair k GoodUses.no-use = inl refl

@@ -1,18 +1,24 @@
 --   SplitLaws     a line's text and its fields
+--   FormLaws      a line's form, and the numbers that its fields state
 --   SaysLaws      a line of that form, with figures that obey the rules, says them
---   TableLaws     tables by rows and by stores
+--   PairRows      rows by their places, and the pairs of a task, stored use by use
+--   TableLaws     the tasks and the table, stored line by line
 --   FigureLaws    good figures make an accepted table
---   ReadStates    from what is read to what is stated, and back
+--   ReadStates    from what is read to what is stated
+--   StatesRead    from what is stated to what is read
 --   Meaning       correct, complete, passes-check
 --   Refused       a refused reading gives the empty table
 --   FieldBack     the text of a number states it, and is read back
 --   TextFigures   the text of an accepted table states its figures
 --   Back          text-fits, reads-back, cleared-same, rewrites, same-text
 pub mod SplitLaws
+pub mod FormLaws
 pub mod SaysLaws
+pub mod PairRows
 pub mod TableLaws
 pub mod FigureLaws
 pub mod ReadStates
+pub mod StatesRead
 pub mod Meaning
 pub mod Refused
 pub mod FieldBack

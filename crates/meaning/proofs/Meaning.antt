@@ -23,12 +23,15 @@ use Rattle.line.specs.Line.{countIn, lineSays}
 use Rattle.listing.specs.Read.{fresh, pastAfter, tableAfter, accepted, refused, onSaid, readEnd, readLines, readListing}
 use Rattle.meaning.specs.Figures.{UseFigures, Figures, StatesUses, StatesFigures, cpus-line, GoodUses, GoodFigures, tableOf}
 use Rattle.meaning.specs.Meaning.{Correct, Complete, PassesCheck}
-use Rattle.line.proofs.Says.{CpusRules, Line, is-cpus, is-task, is-use, is-not, line-is}
+use Rattle.line.proofs.LineRules.{CpusRules, Line, is-cpus, is-task, is-use, is-not}
+use Rattle.line.proofs.Says.{line-is}
 use Rattle.meaning.proofs.SaysLaws.{says-cpus}
-use Rattle.meaning.proofs.SplitLaws.{Start, start-of, none, more, start-text, count-in, count-word, count-stated}
+use Rattle.meaning.proofs.SplitLaws.{Start, start-of, none, more}
+use Rattle.meaning.proofs.FormLaws.{start-text, count-in, count-word, count-stated}
 use Rattle.meaning.proofs.TableLaws.{stored}
 use Rattle.meaning.proofs.FigureLaws.{good-table}
-use Rattle.meaning.proofs.ReadStates.{Stating, refused-not, read-states, readText, line-read, tasks-read}
+use Rattle.meaning.proofs.ReadStates.{Stating, refused-not, read-states}
+use Rattle.meaning.proofs.StatesRead.{readText, line-read, tasks-read}
 
 -- ---- correct
 

@@ -11,13 +11,13 @@ use Rattle.basics.proofs.ChoiceLaws.{and-true, within-in}
 use Rattle.table.specs.declared.Pair.{Pair}
 use Rattle.table.specs.declared.Resource.{Resource}
 use Rattle.table.specs.Limits.{maxCpus, maxTasks, maxResources}
-use Rattle.table.proofs.Acceptance.{times-fine, used-range, used-totals}
+use Rattle.table.proofs.RuleLaws.{times-fine, used-range, used-totals}
 use Rattle.field.specs.declared.Field.{Field}
 use Rattle.line.specs.declared.Past.{Past}
 use Rattle.line.specs.declared.Said.the-variants.{Cpus, Task as TaskLine, Use}
 use Rattle.line.specs.Fields.{fieldCount, form}
 use Rattle.line.specs.Line.{cpusLine, taskLine, useLine, countIn, timeIn, lineSays}
-use Rattle.line.proofs.Says.{CpusRules, TaskRules, UseRules}
+use Rattle.line.proofs.LineRules.{CpusRules, TaskRules, UseRules}
 
 -- a line of one form is of no form with another number of fields
 form-other : (w v : List ℕ) (k j : ℕ) (s : List ℕ) → form w k s ≡ true → eqb k j ≡ false → form v j s ≡ false

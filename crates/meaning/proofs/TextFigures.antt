@@ -12,7 +12,8 @@ use lib.Dec.{ltb}
 use borrow.Author.Tests.{lt-ltb, le-ltb, eq-eqb, ne-eqb}
 use Rattle.basics.specs.Choice.{pick}
 use Rattle.basics.specs.Over.{sumTo, joinTo}
-use Rattle.basics.proofs.OverLaws.{sum-rises, join-from}
+use Rattle.basics.proofs.SumLaws.{sum-rises}
+use Rattle.basics.proofs.JoinLaws.{join-from}
 use Rattle.table.specs.declared.Task.{Task}
 use Rattle.table.specs.declared.Table.{Table}
 use Rattle.table.specs.Limits.{maxTasks, maxResources}
@@ -23,7 +24,7 @@ use Rattle.meaning.proofs.FieldBack.{count-text, time-text}
 use Rattle.meaning.specs.Figures.{UseFigures, TaskFigures, Figures, StatesUses, StatesTasks, StatesFigures, cpus-line, GoodUses, GoodTasks, GoodFigures, pairFor, taskOf, taskFor, tableOf}
 use Rattle.writing.specs.Write.{useText, pairText, taskText, textOf}
 use Rattle.meaning.specs.Back.{clearedTask, cleared}
-use Rattle.meaning.proofs.TableLaws.{row-eq}
+use Rattle.meaning.proofs.PairRows.{row-eq}
 
 -- ---- a task's uses
 

@@ -3,7 +3,7 @@
 use Prim.Native.Nat.{ℕ, suc, _+_, _-_, _≤_, _<_}
 use mathlib.Core.Path.{_≡_, refl, sym, ap₂, _∙_}
 use mathlib.Core.Bool.{Bool, true, false, not}
-use native.Mathlib.Nat.{le-refl, le-trans, mul-le-mul}
+use native.Mathlib.Nat.{le-refl, mul-le-mul}
 use native.Mathlib.Decide.{decLe}
 use native.Mathlib.Omega.{arith}
 use borrow.Author.Tests.{le-leb, lt-leb}
@@ -11,8 +11,9 @@ use lib.Dec.{leb}
 use Rattle.table.specs.declared.Level.{Level}
 use Rattle.table.specs.Limits.{maxResources}
 use Rattle.basics.specs.Choice.{pick, only}
-use Rattle.basics.specs.Over.{sumTo, maxTo}
-use Rattle.basics.proofs.OverLaws.{sum-le, sum-rises, sum-eq, sum-some, max-le, max-rises}
+use Rattle.basics.specs.Over.{sumTo}
+use Rattle.basics.proofs.SumLaws.{sum-le, sum-wider, sum-eq, sum-some}
+use Rattle.basics.proofs.MaxLaws.{max-wider}
 use Rattle.theory.specs.declared.Verdict.the-variants.{Meets}
 use Rattle.theory.specs.Work.{workload, ceilDiv}
 use Rattle.theory.specs.View.{View, level, resource, isAbove, largestBelow, uses, ceiling}
@@ -34,13 +35,6 @@ demand-start W v i t = omega arith
 only-le : (b c : Bool) (x y : ℕ) → c ≡ b → x ≤ y → only b x ≤ only c y
 only-le true c x y e h = rw e h
 only-le false c x y e h = omega arith
-
--- nowhere larger, and over no more indices
-sum-wider : (m n : ℕ) (g h : ℕ → ℕ) → m ≤ n → ((k : ℕ) → k < m → g k ≤ h k) → sumTo m g ≤ sumTo n h
-sum-wider m n g h l le = le-trans (sum-le m g h le) (sum-rises m n h l)
-
-max-wider : (m n : ℕ) (g h : ℕ → ℕ) → m ≤ n → ((k : ℕ) → k < m → g k ≤ h k) → maxTo m g ≤ maxTo n h
-max-wider m n g h l le = le-trans (max-le m g h le) (max-rises m n h l)
 
 -- the last term of (11): with fewer processors the short form may be lost, and is never won
 divided : (i m m' n n' : ℕ) → 1 ≤ m' → m' ≤ m → n ≤ n' → Dec (i ≤ m)

@@ -13,7 +13,9 @@ use Rattle.table.specs.declared.Resource.{Resource}
 use Rattle.table.specs.Limits.{maxResources}
 use Rattle.basics.specs.Choice.{only}
 use Rattle.basics.specs.Over.{sumTo, maxTo, firstTo}
-use Rattle.basics.proofs.OverLaws.{sum-part, sum-bound, sum-eq, sum-add, sum-rest, max-bound, First, first-is}
+use Rattle.basics.proofs.SumLaws.{sum-part, sum-bound, sum-eq, sum-add, sum-rest}
+use Rattle.basics.proofs.MaxLaws.{max-bound}
+use Rattle.basics.proofs.FirstIndexLaws.{First, first-is}
 use Rattle.theory.specs.View.{View, level, resource, isAbove, overAbove, uses, ceiling}
 use Rattle.theory.specs.Demand.{sharedCT, otherCT, allCT}
 

@@ -9,7 +9,7 @@ use native.Mathlib.Omega.{arith}
 use borrow.Author.Tests.{leb-true, le-leb, lt-ltb, le-ltb}
 use lib.Dec.{T, leb, ltb, leb→le, ltb→lt}
 use Rattle.basics.specs.Choice.{pick}
-use Rattle.basics.proofs.OverLaws.{First, first-is}
+use Rattle.basics.proofs.FirstIndexLaws.{First, first-is}
 use Rattle.theory.specs.declared.Verdict.{Verdict}
 use Rattle.theory.specs.declared.Verdict.the-variants.{Meets, Misses}
 use Rattle.theory.specs.Verdict.{verdictOf, Least, Right, Rises}

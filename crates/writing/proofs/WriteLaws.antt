@@ -13,7 +13,7 @@ use borrow.Author.Tests.{le-leb}
 use Rattle.basics.specs.Choice.{pick}
 use Rattle.basics.specs.Over.{joinTo}
 use Rattle.basics.specs.Text.{putInto, ending, lineOf}
-use Rattle.basics.proofs.OverLaws.{join-none, join-more, join-room}
+use Rattle.basics.proofs.JoinLaws.{join-none, join-more, join-room}
 use Rattle.basics.proofs.FillLaws.{restAt, backAt, rest-length, Filled, filled-part, filled-byte}
 use Rattle.put.specs.declared.Put.{Put}
 use Rattle.put.specs.Text.{countText, timeText, putAnswer, putLength}

@@ -1,5 +1,5 @@
 -- `field::count` meets its contract: each `return` is a law of `countField`. Assumes nothing.
-use Rattle.field.proofs.Laws.{count-long, count-none, count-high, count-open, count-ok}
+use Rattle.field.proofs.FoundLaws.{count-long, count-none, count-high, count-open, count-ok}
 use Rattle.field.specs.Number.{runOf}
 use Rattle.field.specs.declared.Run.the-variants.{Of}
 use Rattle.basics.proofs.ChoiceLaws.{stops, passes}

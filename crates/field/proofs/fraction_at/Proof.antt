@@ -9,7 +9,8 @@ use lib.Seq.{drop-drop}
 use Rattle.basics.proofs.ChoiceLaws.{stops, passes}
 use Rattle.field.specs.declared.Run.the-variants.{Of}
 use Rattle.field.specs.Number.{runOf, ends}
-use Rattle.field.proofs.Laws.{run-small, fraction-long, fraction-none, fraction-high, fraction-open, fraction-ok}
+use Rattle.field.proofs.DigitLaws.{run-small}
+use Rattle.field.proofs.FoundLaws.{fraction-long, fraction-none, fraction-high, fraction-open, fraction-ok}
 use borrow.Author.Needs.{needs}
 use Rattle.field.proofs.fraction_at.Statement.{statement}
 use Rattle.field.proofs.fraction_at.Tie as tie

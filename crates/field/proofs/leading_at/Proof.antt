@@ -1,5 +1,5 @@
 -- `field::leading_at` meets its contract: past the end there are no digits. Assumes nothing.
-use Rattle.field.proofs.Laws.{whole-part}
+use Rattle.basics.proofs.FillLaws.{whole-part}
 use Rattle.field.specs.Number.{runOf}
 use mathlib.Core.Path.{_≡_, ap, _∙_}
 use lib.ListN.{drop-of-length-le}

@@ -4,7 +4,8 @@ use native.Mathlib.Omega.{arith}
 use Rattle.basics.proofs.ChoiceLaws.{stops, passes}
 use Rattle.field.specs.declared.Run.the-variants.{Of}
 use Rattle.field.specs.Number.{runOf}
-use Rattle.field.proofs.Laws.{run-small, time-long, time-none, time-whole, time-other, time-fraction}
+use Rattle.field.proofs.DigitLaws.{run-small}
+use Rattle.field.proofs.FoundLaws.{time-long, time-none, time-whole, time-other, time-fraction}
 use borrow.Author.Needs.{needs}
 use Rattle.field.proofs.time.Statement.{statement}
 use Rattle.field.proofs.time.Tie as tie

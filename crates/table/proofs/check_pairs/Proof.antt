@@ -5,7 +5,7 @@ use native.Mathlib.Omega.{arith}
 use Prim.Native.Nat.{_+_, _*_, _≤_, _-_}
 use Rattle.table.specs.declared.Checked.the-variants.{Fine}
 use Rattle.basics.specs.Over.{sumTo}
-use Rattle.basics.proofs.OverLaws.{sum-more}
+use Rattle.basics.proofs.SumLaws.{sum-more}
 use Rattle.table.specs.At.{totalOf}
 use Rattle.table.specs.Faults.{firstFault}
 use Rattle.table.specs.Rules.{pairFault, pairFaultOf, pairsFault}

@@ -4,7 +4,7 @@ use mathlib.Core.Path.{_≡_, ap, _∙_}
 use native.Mathlib.Omega.{arith}
 use Prim.Native.Nat.{ℕ, _-_, _≤_}
 use Rattle.basics.specs.Over.{sumTo}
-use Rattle.basics.proofs.OverLaws.{sum-none, sum-more}
+use Rattle.basics.proofs.SumLaws.{sum-none, sum-more}
 use Rattle.table.specs.At.{totalOf}
 use Rattle.analysis.specs.Pass.{markedOf}
 use Rattle.analysis.proofs.SoundLaws.{totals-most}

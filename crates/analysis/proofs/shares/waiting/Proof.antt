@@ -5,8 +5,8 @@ use native.Mathlib.Nat.{mul-le-mul, le-trans, le-of-eq}
 use native.Mathlib.Omega.{arith}
 use Prim.Native.Nat.{ℕ, _*_, _-_, _≤_}
 use Rattle.basics.specs.Over.{sumTo}
-use Rattle.basics.proofs.OverLaws.{sum-none, sum-more}
-use Rattle.table.proofs.Acceptance.{pair-bounds}
+use Rattle.basics.proofs.SumLaws.{sum-none, sum-more}
+use Rattle.table.proofs.RuleLaws.{pair-bounds}
 use Rattle.analysis.specs.Pass.{waitAt}
 use Rattle.analysis.proofs.shares.waiting.Statement.{statement}
 use Rattle.analysis.proofs.shares.waiting.Tie as tie

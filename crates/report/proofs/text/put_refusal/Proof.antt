@@ -4,7 +4,8 @@ use native.Mathlib.Omega.{arith}
 use Rattle.basics.specs.Text.{bytes}
 use Rattle.put.specs.Text.{countText}
 use Rattle.page.specs.Report.{refusalText}
-use Rattle.report.proofs.ReportLaws.{Upto, upto-first, upto-more, upto-in, upto-room, upto-done, count-most}
+use Rattle.report.proofs.OutputLaws.{Upto, upto-first, upto-more, upto-in, upto-room, upto-done}
+use Rattle.report.proofs.ReportLaws.{count-most}
 use borrow.Author.Needs.{needs}
 use Rattle.report.proofs.text.put_refusal.Statement.{statement}
 use Rattle.report.proofs.text.put_refusal.Tie as tie

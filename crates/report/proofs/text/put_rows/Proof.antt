@@ -9,7 +9,8 @@ use Rattle.basics.specs.Text.{bytes}
 use Rattle.basics.proofs.FillLaws.{Filled}
 use Rattle.page.specs.Report.{rowText}
 use Rattle.report.specs.Rows.{noRecord, recordsText}
-use Rattle.report.proofs.ReportLaws.{filled-text, filled-done, filled-again, filled-over, Upto, upto-of, upto-more, upto-in, upto-room, row-most, records-most, records-more}
+use Rattle.report.proofs.OutputLaws.{filled-text, filled-done, filled-again, filled-over, Upto, upto-of, upto-more, upto-in, upto-room}
+use Rattle.report.proofs.ReportLaws.{row-most, records-most, records-more}
 use Rattle.report.proofs.text.put_rows.Statement.{statement}
 use Rattle.report.proofs.text.put_rows.Tie as tie
 

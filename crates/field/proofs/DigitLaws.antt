@@ -1,24 +1,20 @@
--- Laws of the number fields' definitions, as the code meets them: at a place n of s, where `drop n s` is what is left.
+-- Laws of digits, runs of digits and numbers, as the code meets them: at a place n of s, where `drop n s` is what is left.
 -- Assumes nothing.
-use Prim.Native.Nat.{ℕ, zero, suc, _+_, _-_, _*_, _^_, _≤_, _<_}
+use Prim.Native.Nat.{ℕ, _+_, _-_, _*_, _^_, _≤_, _<_}
 use mathlib.Core.Path.{_≡_, refl, sym, ap, _∙_}
-use mathlib.Core.Bool.{Bool, true, false, _&&_, and-false, false≢true}
+use mathlib.Core.Bool.{Bool, true, false}
 use mathlib.Core.List.{List, [], _∷_, _++_}
 use native.Mathlib.Omega.{arith}
 use native.Mathlib.Numerals.{add-one}
-use native.Mathlib.Nat.{le-trans, pow-suc, pow-le-pow-right, mul-le-mul-right, mul-assoc, pow-succ', add-mul, mul-one, one-mul}
+use native.Mathlib.Nat.{le-trans, pow-suc, pow-le-pow-right, mul-le-mul-right, mul-assoc, pow-succ'}
 use lib.ListN.{length, getD, drop, drop-of-length-le}
 use lib.Seq.{drop-cons}
 use lib.Dec.{leb, lit<}
 use borrow.Author.Tests.{le-leb, lt-leb, leb-true, leb-false}
-use Rattle.field.specs.declared.Field.{Field}
-use Rattle.field.specs.declared.Run.{Run}
 use Rattle.field.specs.declared.Run.the-variants.{Of, Long}
-use Rattle.field.specs.declared.Field.the-variants.{Value, Bad}
 use Rattle.basics.specs.Choice.{pick, within}
-pub use Rattle.basics.proofs.FillLaws.{whole-part}
-use Rattle.basics.proofs.ChoiceLaws.{within-in, within-low, within-high, within-true}
-use Rattle.field.specs.Number.{isDigit, digits, number, runOf, padded, micros, timeField, countField, fraction, ends, point}
+use Rattle.basics.proofs.ChoiceLaws.{within-true}
+use Rattle.field.specs.Number.{digits, number, runOf, padded, micros}
 
 -- ---- the digits from a place on
 
@@ -111,76 +107,3 @@ padded-number a (x ∷ y ∷ z ∷ u ∷ f) l h = absurd (omega arith)
 
 pub micros-whole : (v : ℕ) → micros v [] ≡ v * 1000
 micros-whole v = omega arith
-
--- ---- a count, by what the code finds on the way
-
-pub count-long : (s : List ℕ) → Long ≡ runOf s → Bad ≡ countField s
-unfolding countField
-count-long s e = let h = run-is-long s e in rw (within-high 1 4 (length (digits s)) (omega arith))
-
-module _ (s : List ℕ) (n v : ℕ) (e : Of n v ≡ runOf s) where
-  pub count-none : n ≡ 0 → Bad ≡ countField s
-  unfolding countField
-  count-none h = let r = run-is s n v e in rw (within-low 1 4 (length (digits s)) (omega arith))
-
-  pub count-high : 4 < n → Bad ≡ countField s
-  unfolding countField
-  count-high h = let r = run-is s n v e in rw (within-high 1 4 (length (digits s)) (omega arith))
-
-  pub count-open : ends (drop n s) ≡ false → Bad ≡ countField s
-  unfolding countField
-  count-open h = let r = run-is s n v e in rw (← r .0, h, and-false)
-
-  pub count-ok : (n ≡ 0 → ⊥) → n ≤ 4 → ends (drop n s) ≡ true → Value v n ≡ countField s
-  unfolding countField
-  count-ok l k h = let r = run-is s n v e in rw (← r .0, ← r .1, within-in 1 4 n (omega arith) k, h)
-
--- ---- a fraction
-
-pub fraction-long : (v at : ℕ) (s : List ℕ) → Long ≡ runOf s → Bad ≡ fraction v at s
-unfolding fraction
-fraction-long v at s e = let h = run-is-long s e in rw (within-high 1 3 (length (digits s)) (omega arith))
-
-module _ (v at : ℕ) (s : List ℕ) (n x : ℕ) (e : Of n x ≡ runOf s) where
-  pub fraction-none : n ≡ 0 → Bad ≡ fraction v at s
-  unfolding fraction
-  fraction-none h = let r = run-is s n x e in rw (within-low 1 3 (length (digits s)) (omega arith))
-
-  pub fraction-high : 3 < n → Bad ≡ fraction v at s
-  unfolding fraction
-  fraction-high h = let r = run-is s n x e in rw (within-high 1 3 (length (digits s)) (omega arith))
-
-  pub fraction-open : ends (drop n s) ≡ false → Bad ≡ fraction v at s
-  unfolding fraction
-  fraction-open h = let r = run-is s n x e in rw (← r .0, h, and-false)
-
-  pub fraction-ok : (y : ℕ) → y ≡ x * 10 ^ (3 - n) → (n ≡ 0 → ⊥) → n ≤ 3 → ends (drop n s) ≡ true → Value (v * 1000 + y) (at + n) ≡ fraction v at s
-  unfolding fraction
-  fraction-ok y z l u h =
-      let r = run-is s n x e in
-      rw (padded-number v (digits s) (omega arith) (omega arith), z, ← r .0, ← r .1, within-in 1 3 n (omega arith) u, h)
-
--- ---- a time
-
-pub time-long : (s : List ℕ) → Long ≡ runOf s → Bad ≡ timeField s
-unfolding timeField
-time-long s e = let h = run-is-long s e in rw (within-high 1 5 (length (digits s)) (omega arith))
-
-module _ (s : List ℕ) (n v : ℕ) (e : Of n v ≡ runOf s) where
-  pub time-none : n ≡ 0 → Bad ≡ timeField s
-  unfolding timeField
-  time-none h = let r = run-is s n v e in rw (within-low 1 5 (length (digits s)) (omega arith))
-
-  pub time-whole : (n ≡ 0 → ⊥) → ends (drop n s) ≡ true → Value (v * 1000) n ≡ timeField s
-  unfolding timeField
-  time-whole l h =
-      let r = run-is s n v e in
-      rw (micros-whole (number 0 (digits s)), ← r .0, ← r .1, within-in 1 5 n (omega arith) (omega arith), h)
-
-  pub time-other : ends (drop n s) ≡ false → point (drop n s) ≡ false → Bad ≡ timeField s
-  unfolding timeField
-  time-other h p = let r = run-is s n v e in rw (← r .0, h, p) (pick-same (within 1 5 n))
-
-  pub time-fraction : (n ≡ 0 → ⊥) → ends (drop n s) ≡ false → point (drop n s) ≡ true → fraction v (n + 1) (drop (n + 1) s) ≡ timeField s
-  unfolding timeField
-  time-fraction l h p = let r = run-is s n v e in rw (← r .0, ← r .1, within-in 1 5 n (omega arith) (omega arith), h, p)

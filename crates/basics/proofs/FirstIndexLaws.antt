@@ -1,0 +1,72 @@
+-- The laws of the first index below n.
+-- Assumes nothing.
+use Prim.Native.Nat.{ℕ, zero, suc, _+_, _≤_, _<_}
+use mathlib.Core.Path.{_≡_, refl, ap, _∙_, subst}
+use mathlib.Core.Bool.{Bool, true, false}
+use native.Mathlib.Nat.{le-refl, not-suc-le-zero}
+use native.Mathlib.Numerals.{add-one}
+use native.Mathlib.Decide.{ℕ-discrete}
+use native.Mathlib.Omega.{arith}
+use borrow.Author.Tests.{lt-ltb, le-ltb}
+use lib.Dec.{ltb}
+use Rattle.basics.specs.Choice.{pick}
+use Rattle.basics.specs.Over.{firstTo}
+
+pub first-none : (p : ℕ → Bool) → firstTo 0 p ≡ 0
+unfolding firstTo
+first-none p = refl
+
+next : (f n : ℕ) (b : Bool) → f ≡ n → pick (ltb f n) f (pick b n (suc n)) ≡ pick b n (suc n)
+next f n b e = ap (λ (t : Bool). pick t f (pick b n (suc n))) (le-ltb f n (omega arith))
+
+-- nothing found so far, nor here
+pub first-more : (n : ℕ) (p : ℕ → Bool) → firstTo n p ≡ n → p n ≡ false → firstTo (n + 1) p ≡ n + 1
+unfolding firstTo
+first-more n p e f = rw add-one (next (firstTo n p) n (p n) e ∙ ap (λ (b : Bool). pick b n (suc n)) f)
+
+here : (n : ℕ) (p : ℕ → Bool) → firstTo n p ≡ n → p n ≡ true → firstTo (suc n) p ≡ n
+unfolding firstTo
+here n p e f = next (firstTo n p) n (p n) e ∙ ap (λ (b : Bool). pick b n (suc n)) f
+
+earlier : (n l : ℕ) (p : ℕ → Bool) → l < n → firstTo n p ≡ l → firstTo (suc n) p ≡ l
+unfolding firstTo
+earlier n l p h e = ap (λ (t : Bool). pick t (firstTo n p) (pick (p n) n (suc n))) (lt-ltb (firstTo n p) n (omega arith)) ∙ e
+
+-- nothing found before l, and l found
+pub first-found : (n l : ℕ) (p : ℕ → Bool) → l < n → firstTo l p ≡ l → p l ≡ true → firstTo n p ≡ l
+first-found zero l p h e f = absurd (not-suc-le-zero h)
+first-found (suc n) l p h e f = go (ℕ-discrete l n) (λ k. first-found n l p k e f)
+  where
+    go : Dec (l ≡ n) → (l < n → firstTo n p ≡ l) → firstTo (suc n) p ≡ l
+    go (yes d) ih = subst (λ (m : ℕ). firstTo (suc m) p ≡ l) d (here l p e f)
+    go (no d) ih = earlier n l p (omega arith) (ih (omega arith))
+
+-- what the first index below n is: nothing is found before it, and it is found itself if it is below n
+pub record First (n : ℕ) (p : ℕ → Bool) (f : ℕ) : Type 0 where
+  pub upto : f ≤ n
+  pub clear : (j : ℕ) → j < f → p j ≡ false
+  pub found : f < n → p f ≡ true
+
+clear-more : (n j : ℕ) (p : ℕ → Bool) → ((j : ℕ) → j < n → p j ≡ false) → p n ≡ false → j < suc n → Dec (j ≡ n) → p j ≡ false
+clear-more n j p h e k (yes d) = rw d e
+clear-more n j p h e k (no d) = h j (omega arith)
+
+first-step : (n f : ℕ) (p : ℕ → Bool) → firstTo n p ≡ f → First n p f → Dec (f ≡ n) → (b : Bool) → p n ≡ b
+    → First (suc n) p (firstTo (suc n) p)
+first-step n f p e w (no d) b q =
+    let l : f < n = omega (arith, w .upto) in
+    rw (earlier n f p l e) (record { upto = omega arith; clear = w .clear; found = λ _. w .found l })
+first-step n f p e w (yes d) true q =
+    rw (here n p (e ∙ d) q) (record { upto = omega arith; clear = λ j k. w .clear j (omega arith); found = λ _. q })
+first-step n f p e w (yes d) false q =
+    rw (← add-one, first-more n p (e ∙ d) q, add-one)
+    (record {
+      upto = le-refl (suc n);
+      clear = λ j k. clear-more n j p (λ j l. w .clear j (omega arith)) q k (ℕ-discrete j n);
+      found = λ k. absurd (omega (arith, k));
+    })
+
+pub first-is : (n : ℕ) (p : ℕ → Bool) → First n p (firstTo n p)
+unfolding firstTo
+first-is zero p = record { upto = le-refl 0; clear = λ j k. absurd (not-suc-le-zero k); found = λ k. absurd (not-suc-le-zero k) }
+first-is (suc n) p = first-step n (firstTo n p) p refl (first-is n p) (ℕ-discrete (firstTo n p) n) (p n) refl

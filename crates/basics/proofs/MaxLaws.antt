@@ -1,0 +1,42 @@
+-- The laws of the largest value over the indices below n.
+-- Assumes nothing.
+use Prim.Native.Nat.{ℕ, zero, suc, _+_, _≤_, _<_, max}
+use mathlib.Core.Path.{_≡_, refl}
+use native.Mathlib.Nat.{le-refl, le-trans}
+use native.Mathlib.Numerals.{add-one}
+use native.Mathlib.Decide.{ℕ-discrete}
+use native.Mathlib.Omega.{arith}
+use Rattle.basics.specs.Over.{maxTo}
+
+pub max-none : (g : ℕ → ℕ) → 0 ≡ maxTo 0 g
+unfolding maxTo
+max-none g = refl
+
+pub max-more : (i : ℕ) (g : ℕ → ℕ) → maxTo (i + 1) g ≡ max (maxTo i g) (g i)
+unfolding maxTo
+max-more i g = rw add-one
+
+pub max-bound : (n b : ℕ) (g : ℕ → ℕ) → ((k : ℕ) → k < n → g k ≤ b) → maxTo n g ≤ b
+unfolding maxTo
+max-bound zero b g le = omega arith
+max-bound (suc n) b g le = omega (arith, max-bound n b g (λ k l. le k (omega arith)), le n (le-refl (suc n)))
+
+-- nowhere larger, so the largest is no larger
+pub max-le : (n : ℕ) (g h : ℕ → ℕ) → ((k : ℕ) → k < n → g k ≤ h k) → maxTo n g ≤ maxTo n h
+unfolding maxTo
+max-le zero g h le = le-refl 0
+max-le (suc n) g h le = omega (arith, max-le n g h (λ k l. le k (omega arith)), le n (le-refl (suc n)))
+
+-- over more indices, no smaller
+pub max-rises : (m n : ℕ) (g : ℕ → ℕ) → m ≤ n → maxTo m g ≤ maxTo n g
+unfolding maxTo
+max-rises m zero g h = let e : m ≡ 0 = omega arith in rw e (le-refl 0)
+max-rises m (suc n) g h = go (ℕ-discrete m (suc n)) (λ l. max-rises m n g l)
+  where
+    go : Dec (m ≡ suc n) → (m ≤ n → maxTo m g ≤ maxTo n g) → maxTo m g ≤ maxTo (suc n) g
+    go (yes e) ih = rw e (le-refl (maxTo (suc n) g))
+    go (no d) ih = omega (arith, ih (omega arith))
+
+-- nowhere larger, and over no more indices
+pub max-wider : (m n : ℕ) (g h : ℕ → ℕ) → m ≤ n → ((k : ℕ) → k < m → g k ≤ h k) → maxTo m g ≤ maxTo n h
+max-wider m n g h l le = le-trans (max-le m g h le) (max-rises m n h l)

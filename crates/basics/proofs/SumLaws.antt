@@ -1,0 +1,82 @@
+-- The laws of the sum over the indices below n.
+-- Assumes nothing.
+use Prim.Native.Nat.{ℕ, zero, suc, _+_, _*_, _≤_, _<_}
+use mathlib.Core.Path.{_≡_, refl, sym, ap₂, _∙_}
+use mathlib.Core.Bool.{_||_}
+use native.Mathlib.Nat.{le-refl, le-trans, zero-add}
+use native.Mathlib.Numerals.{add-one}
+use native.Mathlib.Decide.{ℕ-discrete}
+use native.Mathlib.Omega.{arith}
+use borrow.Author.Tests.{lt-ltb}
+use lib.Dec.{ltb}
+use Rattle.basics.specs.Over.{sumTo}
+
+pub sum-none : (g : ℕ → ℕ) → 0 ≡ sumTo 0 g
+unfolding sumTo
+sum-none g = refl
+
+pub sum-more : (i : ℕ) (g : ℕ → ℕ) → sumTo (i + 1) g ≡ sumTo i g + g i
+unfolding sumTo
+sum-more i g = rw add-one
+
+-- nowhere larger, so no larger in sum
+pub sum-le : (n : ℕ) (g h : ℕ → ℕ) → ((k : ℕ) → k < n → g k ≤ h k) → sumTo n g ≤ sumTo n h
+unfolding sumTo
+sum-le zero g h le = le-refl 0
+sum-le (suc n) g h le = omega (arith, sum-le n g h (λ k l. le k (omega arith)), le n (le-refl (suc n)))
+
+-- over more indices, no smaller
+pub sum-rises : (m n : ℕ) (g : ℕ → ℕ) → m ≤ n → sumTo m g ≤ sumTo n g
+unfolding sumTo
+sum-rises m zero g h = let e : m ≡ 0 = omega arith in rw e (le-refl 0)
+sum-rises m (suc n) g h = go (ℕ-discrete m (suc n)) (λ l. sum-rises m n g l)
+  where
+    go : Dec (m ≡ suc n) → (m ≤ n → sumTo m g ≤ sumTo n g) → sumTo m g ≤ sumTo (suc n) g
+    go (yes e) ih = rw e (le-refl (sumTo (suc n) g))
+    go (no d) ih = omega (arith, ih (omega arith))
+
+-- each value is at most the sum
+pub sum-part : (n k : ℕ) (g : ℕ → ℕ) → k < n → g k ≤ sumTo n g
+sum-part n k g h = omega (arith, sum-more k g, sum-rises (k + 1) n g (omega arith))
+
+pub sum-bound : (n b : ℕ) (g : ℕ → ℕ) → ((k : ℕ) → k < n → g k ≤ b) → sumTo n g ≤ n * b
+unfolding sumTo
+sum-bound zero b g le = omega arith
+sum-bound (suc n) b g le = omega (arith, sum-bound n b g (λ k l. le k (omega arith)), le n (le-refl (suc n)))
+
+pub sum-eq : (n : ℕ) (g h : ℕ → ℕ) → ((k : ℕ) → k < n → g k ≡ h k) → sumTo n g ≡ sumTo n h
+unfolding sumTo
+sum-eq zero g h eq = refl
+sum-eq (suc n) g h eq = omega (arith, sum-eq n g h (λ k l. eq k (omega arith)), eq n (le-refl (suc n)))
+
+pub sum-add : (n : ℕ) (g h : ℕ → ℕ) → sumTo n g + sumTo n h ≡ sumTo n (λ k. g k + h k)
+unfolding sumTo
+sum-add zero g h = refl
+sum-add (suc n) g h = omega (arith, sum-add n g h)
+
+-- nothing from m on, so the sum stays
+pub sum-rest : (m n : ℕ) (g : ℕ → ℕ) → m ≤ n → ((k : ℕ) → m ≤ k → g k ≡ 0) → sumTo n g ≡ sumTo m g
+unfolding sumTo
+sum-rest m zero g h z = let e : m ≡ 0 = omega arith in rw e
+sum-rest m (suc n) g h z = go (ℕ-discrete m (suc n)) (λ l. sum-rest m n g l z)
+  where
+    go : Dec (m ≡ suc n) → (m ≤ n → sumTo n g ≡ sumTo m g) → sumTo (suc n) g ≡ sumTo m g
+    go (yes e) ih = rw e
+    go (no d) ih = omega (arith, ih (omega arith), z n (omega arith))
+
+-- a sum is something exactly if a value is
+plus-some : (a b : ℕ) → ltb 0 (a + b) ≡ (ltb 0 a || ltb 0 b)
+plus-some zero b = rw zero-add
+plus-some (suc a) b = rw (lt-ltb 0 (suc a + b) (omega arith), lt-ltb 0 (suc a) (omega arith))
+
+pub sum-some : (n : ℕ) (g h : ℕ → ℕ) → ((k : ℕ) → k < n → ltb 0 (g k) ≡ ltb 0 (h k)) → ltb 0 (sumTo n g) ≡ ltb 0 (sumTo n h)
+unfolding sumTo
+sum-some zero g h eq = refl
+sum-some (suc n) g h eq =
+    plus-some (sumTo n g) (g n)
+    ∙ ap₂ _||_ (sum-some n g h (λ k l. eq k (omega arith))) (eq n (le-refl (suc n)))
+    ∙ sym (plus-some (sumTo n h) (h n))
+
+-- nowhere larger, and over no more indices
+pub sum-wider : (m n : ℕ) (g h : ℕ → ℕ) → m ≤ n → ((k : ℕ) → k < m → g k ≤ h k) → sumTo m g ≤ sumTo n h
+sum-wider m n g h l le = le-trans (sum-le m g h le) (sum-rises m n h l)

@@ -1,0 +1,58 @@
+-- Each kind of line, by its rules.
+-- Assumes nothing.
+use Prim.Native.Nat.{ℕ, _+_, _≤_, _<_}
+use mathlib.Core.Path.{_≡_}
+use mathlib.Core.Bool.{true}
+use mathlib.Core.List.{List}
+use Rattle.basics.specs.Text.{bytes}
+use Rattle.table.specs.declared.Pair.{Pair}
+use Rattle.table.specs.declared.Refusal.{Refusal}
+use Rattle.table.specs.declared.Resource.{Resource}
+use Rattle.table.specs.Limits.{maxCpus, maxTasks, maxResources}
+use Rattle.table.specs.Accepted.{GoodTimes, GoodPair}
+use Rattle.field.specs.declared.Field.{Field}
+use Rattle.field.specs.declared.Field.the-variants.{Value}
+use Rattle.line.specs.declared.Past.{Past}
+use Rattle.line.specs.declared.Said.{Said}
+use Rattle.line.specs.declared.Said.the-variants.{Cpus, Task as TaskLine, Use, Not}
+use Rattle.line.specs.Fields.{form}
+use Rattle.line.specs.Line.{countIn, timeIn}
+
+-- a field that states a number
+pub record Stated (f : Field) (v : ℕ) : Type 0 where
+  pub width : ℕ
+  pub is : f ≡ Value v width
+
+-- ---- each kind of line, by its rules
+
+pub record CpusRules (f : Field) (M : ℕ) : Type 0 where
+  pub field : Stated f M
+  pub least : 1 ≤ M
+  pub most : M ≤ maxCpus
+
+pub record TaskRules (past : Past) (f g h : Field) (T C D : ℕ) : Type 0 where
+  pub period : Stated f T
+  pub run : Stated g C
+  pub deadline : Stated h D
+  pub room : past .tasks < maxTasks
+  pub times : GoodTimes T C D
+
+pub record UseRules (past : Past) (f g h i : Field) (K : Resource) (p : Pair) : Type 0 where
+  pub resource : Stated f (K .0)
+  pub requests : Stated g (p .requests)
+  pub longest : Stated h (p .longest)
+  pub total : Stated i (p .total)
+  pub least : 1 ≤ K .0
+  pub most : K .0 ≤ maxResources
+  pub rising : past .last .0 < K .0
+  pub good : GoodPair p
+  pub fits : past .sum + p .total ≤ past .run
+
+-- what a line is that says this
+pub data Line (past : Past) (n : ℕ) (s : List ℕ) : Said → Type 0 where
+  is-cpus : {M : ℕ} → form (bytes "cpus") 2 s ≡ true → n ≡ 1 → CpusRules (countIn s 1) M → Line past n s (Cpus M)
+  is-task : {T C D : ℕ} → form (bytes "task") 4 s ≡ true → 1 < n → TaskRules past (timeIn s 1) (timeIn s 2) (timeIn s 3) T C D
+      → Line past n s (TaskLine T C D)
+  is-use : {K : Resource} {p : Pair} → form (bytes "use") 5 s ≡ true → 0 < past .tasks
+      → UseRules past (countIn s 1) (countIn s 2) (timeIn s 3) (timeIn s 4) K p → Line past n s (Use K p)
+  is-not : (r : Refusal) → Line past n s (Not r)
