@@ -14,11 +14,9 @@ use Rattle.theory.specs.declared.Verdict.the-variants.{Meets, Misses}
 use Rattle.theory.specs.Work.{workload}
 use Rattle.theory.specs.View.{level}
 use Rattle.theory.specs.Demand.{demandOf}
-use Rattle.theory.specs.Verdict.{Rises}
-use Rattle.theory.specs.Harder.{Runs}
+use Rattle.theory.proofs.VerdictLaws.{Rises, climb, meets-by, misses-by}
+use Rattle.theory.proofs.DemandLaws.{Runs, demand-start, demand-rises}
 use Rattle.theory.proofs.WorkLaws.{workload-rises}
-use Rattle.theory.proofs.VerdictLaws.{climb, meets-by, misses-by}
-use Rattle.theory.proofs.DemandLaws.{demand-start, demand-rises}
 use Rattle.analysis.specs.declared.Answer.the-variants.{Known}
 use Rattle.analysis.specs.Tables.{viewOf, verdictIn}
 use Rattle.analysis.specs.Answers.{boundFault, boundOf}

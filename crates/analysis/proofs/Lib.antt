@@ -6,7 +6,7 @@
 --   QuotLaws      a product for the quotient
 --   PackLaws      the shares that count, in front
 --   RoundLaws     a round, and the rounds
---   RowLaws       the row of records, from the front
+--   RowLaws       the row of records, from the front; WrittenLaws: how many are written, and the row afterwards
 --   Determined    two answers are equal
 pub mod ByIterates
 pub mod FilledLaws
@@ -19,4 +19,5 @@ pub mod QuotLaws
 pub mod PackLaws
 pub mod RoundLaws
 pub mod RowLaws
+pub mod WrittenLaws
 pub mod Determined

@@ -2,8 +2,7 @@
 -- Assumes nothing.
 use Prim.Native.Nat.{ℕ, _+_, _-_, _*_, _/_, _≤_, _<_, min}
 use mathlib.Core.Path.{_≡_, refl}
-use native.Mathlib.Nat.{mul-le-mul, mul-le-mul-left, mul-le-mul-right, lt-of-mul-lt-mul-right}
-use native.Mathlib.Nat.{div-mul-le-self, lt-div-mul-add, div-eq-of-lt-le}
+use native.Mathlib.Nat.{mul-le-mul, mul-le-mul-left, mul-le-mul-right, lt-of-mul-lt-mul-right, div-mul-le-self, lt-div-mul-add, div-eq-of-lt-le}
 use native.Mathlib.Omega.{arith}
 use lib.Dec.{lit<}
 use Rattle.theory.specs.Work.{jobs}

@@ -8,9 +8,9 @@ use native.Mathlib.Omega.{arith}
 use Rattle.basics.proofs.SumLaws.{sum-none, sum-more, sum-le}
 use Rattle.theory.specs.declared.Verdict.the-variants.{Meets, Misses}
 use Rattle.theory.specs.Work.{workload, ceilDiv}
-use Rattle.theory.specs.Verdict.{verdictOf, Rises}
+use Rattle.theory.specs.Verdict.{verdictOf}
+use Rattle.theory.proofs.VerdictLaws.{Rises, From, from-start, from-step, found, past, verdict-is}
 use Rattle.theory.proofs.WorkLaws.{workload-rises, ceilDiv-rises}
-use Rattle.theory.proofs.VerdictLaws.{From, from-start, from-step, found, past, verdict-is}
 use Rattle.analysis.specs.declared.rounds.Part.{Part}
 use Rattle.analysis.specs.declared.rounds.Wholes.{Wholes}
 use Rattle.analysis.specs.declared.rounds.Divided.{Divided}

@@ -1,7 +1,7 @@
 -- The laws of the first index below n.
 -- Assumes nothing.
 use Prim.Native.Nat.{ℕ, zero, suc, _+_, _≤_, _<_}
-use mathlib.Core.Path.{_≡_, refl, ap, _∙_, subst}
+use mathlib.Core.Path.{_≡_, refl, ap, _∙_}
 use mathlib.Core.Bool.{Bool, true, false}
 use native.Mathlib.Nat.{le-refl, not-suc-le-zero}
 use native.Mathlib.Numerals.{add-one}
@@ -31,15 +31,6 @@ here n p e f = next (firstTo n p) n (p n) e ∙ ap (λ (b : Bool). pick b n (suc
 earlier : (n l : ℕ) (p : ℕ → Bool) → l < n → firstTo n p ≡ l → firstTo (suc n) p ≡ l
 unfolding firstTo
 earlier n l p h e = ap (λ (t : Bool). pick t (firstTo n p) (pick (p n) n (suc n))) (lt-ltb (firstTo n p) n (omega arith)) ∙ e
-
--- nothing found before l, and l found
-pub first-found : (n l : ℕ) (p : ℕ → Bool) → l < n → firstTo l p ≡ l → p l ≡ true → firstTo n p ≡ l
-first-found zero l p h e f = absurd (not-suc-le-zero h)
-first-found (suc n) l p h e f = go (ℕ-discrete l n) (λ k. first-found n l p k e f)
-  where
-    go : Dec (l ≡ n) → (l < n → firstTo n p ≡ l) → firstTo (suc n) p ≡ l
-    go (yes d) ih = subst (λ (m : ℕ). firstTo (suc m) p ≡ l) d (here l p e f)
-    go (no d) ih = earlier n l p (omega arith) (ih (omega arith))
 
 -- what the first index below n is: nothing is found before it, and it is found itself if it is below n
 pub record First (n : ℕ) (p : ℕ → Bool) (f : ℕ) : Type 0 where

@@ -1,16 +1,12 @@
 -- The laws of the largest value over the indices below n.
 -- Assumes nothing.
 use Prim.Native.Nat.{ℕ, zero, suc, _+_, _≤_, _<_, max}
-use mathlib.Core.Path.{_≡_, refl}
+use mathlib.Core.Path.{_≡_}
 use native.Mathlib.Nat.{le-refl, le-trans}
 use native.Mathlib.Numerals.{add-one}
 use native.Mathlib.Decide.{ℕ-discrete}
 use native.Mathlib.Omega.{arith}
 use Rattle.basics.specs.Over.{maxTo}
-
-pub max-none : (g : ℕ → ℕ) → 0 ≡ maxTo 0 g
-unfolding maxTo
-max-none g = refl
 
 pub max-more : (i : ℕ) (g : ℕ → ℕ) → maxTo (i + 1) g ≡ max (maxTo i g) (g i)
 unfolding maxTo

@@ -14,7 +14,8 @@ use borrow.Author.Tests.{le-leb, lt-leb, leb-true, leb-false}
 use Rattle.field.specs.declared.Run.the-variants.{Of, Long}
 use Rattle.basics.specs.Choice.{pick, within}
 use Rattle.basics.proofs.ChoiceLaws.{within-true}
-use Rattle.field.specs.Number.{digits, number, runOf, padded, micros}
+use Rattle.field.specs.Number.{digits, number, padded, micros}
+use Rattle.field.specs.Runs.{runOf}
 
 -- ---- the digits from a place on
 

@@ -10,7 +10,8 @@ use Rattle.field.specs.declared.Run.the-variants.{Of, Long}
 use Rattle.field.specs.declared.Field.the-variants.{Value, Bad}
 use Rattle.basics.specs.Choice.{within}
 use Rattle.basics.proofs.ChoiceLaws.{within-in, within-low, within-high}
-use Rattle.field.specs.Number.{digits, number, runOf, timeField, countField, fraction, ends, point}
+use Rattle.field.specs.Number.{digits, number, timeField, countField, fraction, ends, point}
+use Rattle.field.specs.Runs.{runOf}
 use Rattle.field.proofs.DigitLaws.{pick-same, run-is, run-is-long, padded-number, micros-whole}
 
 -- ---- a count, by what the code finds on the way

@@ -1,15 +1,15 @@
 -- Laws of number fields.
 --   DigitLaws    digits, runs of digits, and numbers
 --   FoundLaws    a count, a fraction and a time, by what the code finds on the way
---   FirstLaws    the field that a text starts with reads as the text does
---   ReadLaws     what a field is that reads as a number, and its width
+--   FirstField   the field that a text starts with reads as the text does
+--   ReadAs       what a field is that reads as a number, and its width
 --   Spelled      a field reads as a number exactly if it states it
 --   CasesHold    the cases, computed
 --   Determined   two answers are equal
 pub mod DigitLaws
 pub mod FoundLaws
-pub mod FirstLaws
-pub mod ReadLaws
+pub mod FirstField
+pub mod ReadAs
 pub mod Spelled
 pub mod CasesHold
 pub mod Determined

@@ -4,12 +4,10 @@ use Prim.Native.Nat.{ℕ, _+_, _-_, _*_}
 use mathlib.Core.Bool.{Bool, true, false, _&&_, _||_}
 use mathlib.Core.List.{List, [], _∷_, _++_}
 use lib.ListN.{length, take, drop}
-use lib.Dec.{leb, eqb}
+use lib.Dec.{eqb}
 use Rattle.basics.specs.Choice.{pick, within}
 use Rattle.field.specs.declared.Field.{Field}
 use Rattle.field.specs.declared.Field.the-variants.{Value, Bad}
-use Rattle.field.specs.declared.Run.{Run}
-use Rattle.field.specs.declared.Run.the-variants.{Of, Long}
 
 -- '0' to '9'
 abbrev pub isDigit : ℕ → Bool
@@ -71,9 +69,3 @@ unfoldable pub countField : List ℕ → Field
 countField s =
     let w = digits s in
     pick (within 1 4 (length w) && ends (drop (length w) s)) (Value (number 0 w) (length w)) Bad
-
--- the digits that s starts with: how many and what number, or that there are more than five
-unfoldable pub runOf : List ℕ → Run
-runOf s =
-    let w = digits s in
-    pick (leb (length w) 5) (Of (length w) (number 0 w)) Long

@@ -2,7 +2,8 @@
 ghost use mathlib.Core.Path.{_≡_};
 ghost use lib.ListN.{drop};
 ghost use Prim.Native.Nat.{_-_, _*_, _^_, _≤_};
-ghost use Rattle.field.specs.Number.{ends, point, runOf, fraction, timeField, countField};
+ghost use Rattle.field.specs.Number.{ends, point, fraction, timeField, countField};
+ghost use Rattle.field.specs.Runs.{runOf};
 
 // A field's value and its width in bytes, or that it is badly formed.
 pub enum Field {

@@ -15,9 +15,10 @@ use Rattle.basics.proofs.ChoiceLaws.{and-true}
 use Rattle.field.specs.declared.Field.{Field}
 use Rattle.field.specs.declared.Field.the-variants.{Value, Bad}
 use Rattle.field.specs.Number.{apart, first, timeField, countField}
-use Rattle.field.proofs.FirstLaws.{time-first, count-first}
-use Rattle.field.proofs.ReadLaws.{time-width, count-width}
-use Rattle.line.specs.Fields.{others, fields, filled, fieldCount, same, form, placed}
+use Rattle.field.proofs.FirstField.{time-first, count-first}
+use Rattle.field.proofs.ReadAs.{time-width, count-width}
+use Rattle.line.specs.Fields.{others, fields, filled, fieldCount, same, form}
+use Rattle.line.specs.Places.{placed}
 
 -- ---- a line's form
 

@@ -12,7 +12,7 @@ use lib.Dec.{ltb}
 use borrow.Author.Tests.{eq-eqb, ne-eqb, ltb-true, ltb-false}
 use Rattle.basics.specs.Choice.{pick}
 use Rattle.field.specs.Number.{apart, first, ends}
-use Rattle.field.proofs.FirstLaws.{first-none}
+use Rattle.field.proofs.FirstField.{first-none}
 use Rattle.line.specs.Fields.{others, fields, filled, fieldCount, same}
 
 -- ---- a byte at a place

@@ -1,12 +1,10 @@
 -- The fields of a line: "fields are parted by exactly one space."
-use Prim.Native.Nat.{ℕ, _+_}
+use Prim.Native.Nat.{ℕ}
 use mathlib.Core.Bool.{Bool, true, false, _&&_}
 use mathlib.Core.List.{List, [], _∷_}
 use lib.ListN.{length}
 use lib.Dec.{eqb}
 use Rattle.basics.specs.Choice.{pick}
-use Rattle.field.specs.declared.Field.{Field}
-use Rattle.field.specs.declared.Field.the-variants.{Value, Bad}
 use Rattle.field.specs.Number.{apart, first}
 
 -- the fields after the first
@@ -38,8 +36,3 @@ same (x ∷ xs) (y ∷ ys) = eqb x y && same xs ys
 -- a line of k fields, none empty, the first of them the word
 abbrev pub form : List ℕ → ℕ → List ℕ → Bool
 form word k s = eqb (fieldCount s) k && same (first s) word
-
--- the answer to a field that begins at a place, with the place where the next one begins in place of the field's width
-abbrev pub placed : ℕ → Field → Field
-placed at (Value v width) = Value v (at + width + 1)
-placed at Bad = Bad

@@ -11,7 +11,8 @@ use lib.Seq.{drop-cons}
 use lib.Dec.{eqb}
 use borrow.Author.Tests.{eq-eqb, ne-eqb}
 use Rattle.basics.specs.Choice.{pick}
-use Rattle.listing.specs.Lines.{line, onto, lines, endsInLF}
+use Rattle.listing.specs.Lines.{onto, lines, endsInLF}
+use Rattle.listing.specs.FirstLine.{line}
 
 -- ---- the length of a line, by places
 

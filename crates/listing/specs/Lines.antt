@@ -5,11 +5,6 @@ use mathlib.Core.List.{List, [], _∷_}
 use lib.Dec.{eqb}
 use Rattle.basics.specs.Choice.{pick}
 
--- the line that s starts with: up to its LF, or the end
-abbrev pub line : List ℕ → List ℕ
-line [] = []
-line (b ∷ s) = pick (eqb b 10) [] (b ∷ line s)
-
 -- a byte more in front of the first line, if there is one
 abbrev pub onto : ℕ → List (List ℕ) → List (List ℕ)
 onto b [] = []

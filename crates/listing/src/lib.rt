@@ -4,7 +4,7 @@ ghost use mathlib.Core.Bool.{true};
 ghost use Prim.Native.Nat.{_-_, _≤_};
 ghost use lib.ListN.{length};
 ghost use Rattle.table.specs.Limits.{maxResources, maxListing};
-ghost use Rattle.listing.specs.Lines.{line};
+ghost use Rattle.listing.specs.FirstLine.{line};
 ghost use Rattle.listing.specs.Read.{newTask, pastAfter, refused, withPair, readEnd, readListing};
 use line::Past;
 use line::Said;

@@ -1,5 +1,5 @@
 --   SplitLaws     a line's text and its fields
---   FormLaws      a line's form, and the numbers that its fields state
+--   WordLaws      a line's form, and the numbers that its fields state
 --   SaysLaws      a line of that form, with figures that obey the rules, says them
 --   PairRows      rows by their places, and the pairs of a task, stored use by use
 --   TableLaws     the tasks and the table, stored line by line
@@ -12,7 +12,7 @@
 --   TextFigures   the text of an accepted table states its figures
 --   Back          text-fits, reads-back, cleared-same, rewrites, same-text
 pub mod SplitLaws
-pub mod FormLaws
+pub mod WordLaws
 pub mod SaysLaws
 pub mod PairRows
 pub mod TableLaws

@@ -27,7 +27,7 @@ use Rattle.line.proofs.LineRules.{CpusRules, Line, is-cpus, is-task, is-use, is
 use Rattle.line.proofs.Says.{line-is}
 use Rattle.meaning.proofs.SaysLaws.{says-cpus}
 use Rattle.meaning.proofs.SplitLaws.{Start, start-of, none, more}
-use Rattle.meaning.proofs.FormLaws.{start-text, count-in, count-word, count-stated}
+use Rattle.meaning.proofs.WordLaws.{start-text, count-in, count-word, count-stated}
 use Rattle.meaning.proofs.TableLaws.{stored}
 use Rattle.meaning.proofs.FigureLaws.{good-table}
 use Rattle.meaning.proofs.ReadStates.{Stating, refused-not, read-states}

@@ -29,7 +29,7 @@ use Rattle.meaning.specs.Figures.{UseFigures, TaskFigures, StatesUses, u
 use Rattle.line.proofs.LineRules.{TaskRules, UseRules, Line, is-cpus, is-task, is-use, is-not}
 use Rattle.line.proofs.Says.{line-is}
 use Rattle.meaning.proofs.SplitLaws.{Start, start-of, no-line}
-use Rattle.meaning.proofs.FormLaws.{listed, start-text, count-in, time-in}
+use Rattle.meaning.proofs.WordLaws.{listed, start-text, count-in, time-in}
 use Rattle.meaning.proofs.TableLaws.{storeUses, storeTasks}
 
 -- ---- from what is read to what is stated

@@ -22,7 +22,7 @@ use Rattle.listing.specs.Read.{pastAfter, tableAfter, accepted, onSaid, readEnd
 use Rattle.meaning.specs.Figures.{UseFigures, TaskFigures, StatesUses, use-line, StatesTasks, task-line, GoodUses, GoodTasks}
 use Rattle.meaning.proofs.SaysLaws.{says-task, says-use}
 use Rattle.meaning.proofs.SplitLaws.{Word, Words, none, more, row-line}
-use Rattle.meaning.proofs.FormLaws.{row-form, count-word, time-word, count-stated, time-stated}
+use Rattle.meaning.proofs.WordLaws.{row-form, count-word, time-word, count-stated, time-stated}
 use Rattle.meaning.proofs.TableLaws.{storeUses, storeTasks}
 
 abbrev pub readText : Table → Past → ℕ → List ℕ → Reading

@@ -2,6 +2,8 @@
 -- Assumes nothing.
 use Prim.Native.Nat.{ℕ, _≤_, _<_}
 use mathlib.Core.Path.{_≡_, sym, ap, _∙_}
+use mathlib.Core.List.{List}
+use lib.ListN.{length}
 use native.Mathlib.Nat.{le-trans}
 use Rattle.table.specs.declared.Table.{Table}
 use Rattle.table.specs.declared.Checked.the-variants.{Fine}
@@ -15,11 +17,13 @@ use Rattle.theory.proofs.VerdictLaws.{verdict-right, verdict-is}
 use Rattle.theory.proofs.DemandLaws.{demand-start}
 use Rattle.analysis.specs.declared.Answer.the-variants.{Known}
 use Rattle.analysis.specs.Tables.{viewOf, verdictIn}
-use Rattle.analysis.specs.Answers.{boundOf}
+use Rattle.analysis.specs.declared.Record.{Record}
+use Rattle.analysis.specs.Answers.{boundOf, analysisFault, recordOf}
 use Rattle.analysis.proofs.ByIterates.{bound-known}
+use Rattle.analysis.proofs.WrittenLaws.{fits, written-fine, row-record, row-past, row-long}
 use Rattle.meaning.proofs.Meaning.{correct, complete, passes-check}
 use Rattle.meaning.proofs.Back.{text-fits, reads-back, cleared-same, rewrites, same-text}
-use Rattle.promises.specs.Demand2.{demandIn, runIn, deadlineIn, RightVerdict, Demand2}
+use Rattle.promises.specs.Demand2.{demandIn, runIn, deadlineIn, RightVerdict, RightRow, Demand2}
 
 module _ (t : Table) (i : ℕ) (fine : tableFault t ≡ Fine) (h : i < t .n) where
   -- what `bound` answers is the verdict, and the verdict is right
@@ -42,10 +46,24 @@ module _ (t : Table) (i : ℕ) (fine : tableFault t ≡ Fine) (h : i < t .n) whe
         from-run = λ u e. let l = right (Meets u) e in (le-trans (demand-start workload (viewOf t) (level i) u) (l .meets), l .high);
       }
 
+-- the row, where nothing is said against it and the table
+right-row : (t : Table) (row : List Record) → analysisFault t (length row) ≡ Fine → RightRow t row
+unfolding recordOf
+right-row t row e =
+    let f = fits t (length row) e .0 in
+    let w = written-fine t (length row) e in
+    record {
+      task = λ i h. ap (λ (r : Record). r .task) (row-record t row i _ (rw w h));
+      verdict = λ i h. bound-known t i f h ∙ ap (λ (r : Record). Known (r .verdict)) (sym (row-record t row i _ (rw w h)));
+      past = rw w at (row-past t row);
+      long = row-long t row;
+    }
+
 pub demand2 : Demand2
 demand2 =
     record {
       verdicts = right-verdict;
+      rows = right-row;
       correct = correct;
       complete = complete;
       passes-check = passes-check;

@@ -1,6 +1,8 @@
 -- Demand 2: the verdict on a task, and the figures of a listing.
 use Prim.Native.Nat.{ℕ, _≤_, _<_}
 use mathlib.Core.Path.{_≡_}
+use mathlib.Core.List.{List}
+use lib.ListN.{length, getD, drop}
 use Rattle.table.specs.declared.Table.{Table}
 use Rattle.table.specs.declared.Checked.the-variants.{Fine}
 use Rattle.table.specs.Rules.{tableFault}
@@ -9,8 +11,9 @@ use Rattle.theory.specs.View.{level}
 use Rattle.theory.specs.Demand.{demandOf}
 use Rattle.theory.specs.Verdict.{Least, None}
 use Rattle.analysis.specs.declared.Answer.the-variants.{Known}
+use Rattle.analysis.specs.declared.Record.{Record}
 use Rattle.analysis.specs.Tables.{viewOf}
-use Rattle.analysis.specs.Answers.{boundOf}
+use Rattle.analysis.specs.Answers.{boundOf, analysisFault, analysed}
 use Rattle.promises.specs.Words.{_exactly-if_}
 use Rattle.meaning.specs.Meaning.{Correct, Complete, PassesCheck}
 use Rattle.meaning.specs.Back.{TextFits, ReadsBack, ClearedSame, Rewrites, SameText}
@@ -34,8 +37,22 @@ pub record RightVerdict (t : Table) (i : ℕ) : Type 0 where
   -- the bound lies from C to D
   pub from-run : (u : ℕ) → boundOf t (level i) ≡ Known (Meets u) → (runIn t i ≤ u) × (u ≤ deadlineIn t i)
 
+-- a row's record by its slot; past its end, one of no task
+abbrev pub recordIn : List Record → ℕ → Record
+recordIn row i = getD row i (record { task = record { 0 = 0 }; verdict = Misses })
+
+-- of a row that nothing is said against, once the analysis has filled it:
+pub record RightRow (t : Table) (row : List Record) : Type 0 where
+  -- "one for each task": each record holds the number and the verdict of its own task
+  pub task : (i : ℕ) → i < t .n → recordIn (analysed t row) i .task ≡ level i
+  pub verdict : (i : ℕ) → i < t .n → boundOf t (level i) ≡ Known (recordIn (analysed t row) i .verdict)
+  -- "the .. records past the last one written are unchanged"
+  pub past : drop (t .n) (analysed t row) ≡ drop (t .n) row
+  pub long : length (analysed t row) ≡ length row
+
 pub record Demand2 : Type 0 where
   pub verdicts : (t : Table) (i : ℕ) → tableFault t ≡ Fine → i < t .n → RightVerdict t i
+  pub rows : (t : Table) (row : List Record) → analysisFault t (length row) ≡ Fine → RightRow t row
   -- the table of an accepted listing holds exactly the figures that its lines state
   pub correct : Correct
   pub complete : Complete

@@ -7,7 +7,7 @@ use mathlib.Core.List.{List, _++_}
 use native.Mathlib.Omega.{arith}
 use lib.ListN.{length, drop}
 use lib.Dec.{leb}
-use borrow.Author.Tests.{leb-true, leb-false, le-leb, lt-leb}
+use borrow.Author.Tests.{leb-false, le-leb, lt-leb}
 use Rattle.basics.specs.Choice.{pick}
 use Rattle.basics.specs.Text.{putInto}
 use Rattle.basics.proofs.FillLaws.{Filled, put-none, put-all}
@@ -26,15 +26,6 @@ put-filled {o} {o₁} {t} {n} f h =
 
 -- what a writer's answer says to its caller
 module _ (t o : List ℕ) {o₁ : List ℕ} where
-  pub wrote-is : {n : ℕ} → Wrote n ≡ putAnswer t o → o₁ ≡ putInto t o → (n ≡ length t) × (n ≤ length o) × (o₁ ≡ t ++ drop n o)
-  wrote-is {n} = go (leb (length t) (length o)) refl
-    where
-      go : (b : Bool) → leb (length t) (length o) ≡ b → Wrote n ≡ pick b (Wrote (length t)) Short → o₁ ≡ pick b (t ++ drop (length t) o) o → (n ≡ length t) × (n ≤ length o) × (o₁ ≡ t ++ drop n o)
-      go true e a h =
-          let q : n ≡ length t = cc in
-          (q, omega (arith, leb-true (length t) (length o) e), rw q h)
-      go false e a h = let z : _≡_ {A = ℕ} 0 1 = cc in absurd (omega arith)
-
   pub short-is : Short ≡ putAnswer t o → o₁ ≡ putInto t o → (length o < length t) × (o₁ ≡ o)
   short-is = go (leb (length t) (length o)) refl
     where

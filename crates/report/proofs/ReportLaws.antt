@@ -5,15 +5,12 @@
 --     table-few                                a table that nothing is said against has at most 32 tasks
 --     report-unread, report-unjudged, report-rows         the report, by the two answers
 -- Assumes nothing.
-use Prim.Native.Nat.{ℕ, zero, suc, _+_, _-_, _*_, _≤_, _<_}
+use Prim.Native.Nat.{ℕ, zero, suc, _+_, _-_, _*_, _≤_}
 use mathlib.Core.Path.{_≡_, refl, sym, _∙_}
-use mathlib.Core.Logic.{⊎-elim}
-use mathlib.Core.List.{List, [], _∷_, _++_}
+use mathlib.Core.List.{List, _++_}
 use native.Mathlib.Omega.{arith}
-use native.Mathlib.Nat.{not-suc-le-zero, eq-or-lt-of-le}
 use native.Mathlib.Numerals.{add-one}
-use lib.ListN.{length, getD, drop, length-append, List·getD-append}
-use lib.Seq.{getD-at}
+use lib.ListN.{length, getD, length-append}
 use Rattle.table.specs.declared.Refusal.{Refusal}
 use Rattle.table.specs.declared.Table.{Table}
 use Rattle.table.specs.declared.Checked.{Checked}
@@ -29,7 +26,8 @@ use Rattle.theory.specs.declared.Verdict.the-variants.{Meets, Misses}
 use Rattle.listing.specs.declared.Reading.{Reading}
 use Rattle.listing.specs.Read.{readListing}
 use Rattle.analysis.specs.declared.Record.{Record}
-use Rattle.analysis.specs.Answers.{analysisFault, written, recordOf, records, analysed}
+use Rattle.analysis.specs.Answers.{analysisFault, written, recordOf, analysed}
+use Rattle.analysis.proofs.WrittenLaws.{row-record}
 use Rattle.page.specs.Report.{refusalText, verdictText, rowText, rowsText, reportText}
 use Rattle.report.specs.Rows.{noRecord, recordsText}
 
@@ -60,30 +58,10 @@ records-more row n = rw add-one
 
 -- ---- from the records to the verdicts
 
-records-length : (t : Table) (n : ℕ) → length (records t n) ≡ n
-unfolding records
-records-length t zero = refl
-records-length t (suc n) = length-append (records t n) (recordOf t n ∷ []) ∙ omega (arith, records-length t n)
-
-record-at : (t : Table) (n i : ℕ) → i < n → getD (records t n) i noRecord ≡ recordOf t i
-unfolding records
-record-at t zero i h = absurd (not-suc-le-zero h)
-record-at t (suc n) i h =
-    ⊎-elim
-    (λ (e : i ≡ n). rw e (getD-at (records t n) (recordOf t n) [] noRecord n (records-length t n)))
-    (λ (l : i < n). List·getD-append (records t n) (recordOf t n ∷ []) noRecord i (omega (arith, records-length t n)) ∙ record-at t n i l)
-    (eq-or-lt-of-le (omega arith))
-
-record-in : (t : Table) (row : List Record) (i : ℕ) → i < written t (length row) → getD (analysed t row) i noRecord ≡ recordOf t i
-unfolding analysed
-record-in t row i h =
-    let w = written t (length row) in
-    List·getD-append (records t w) (drop w row) noRecord i (omega (arith, records-length t w)) ∙ record-at t w i h
-
 pub records-rows : (t : Table) (row : List Record) (n : ℕ) → n ≤ written t (length row) → recordsText (analysed t row) n ≡ rowsText t n
 unfolding recordsText rowsText recordOf
 records-rows t row zero h = refl
-records-rows t row (suc n) h = rw (records-rows t row n (omega arith), record-in t row n h)
+records-rows t row (suc n) h = rw (records-rows t row n (omega arith), row-record t row n noRecord h)
 
 -- ---- the report, by the reading and by what is said against its table
 

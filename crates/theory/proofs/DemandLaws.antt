@@ -18,11 +18,16 @@ use Rattle.theory.specs.declared.Verdict.the-variants.{Meets}
 use Rattle.theory.specs.Work.{workload, ceilDiv}
 use Rattle.theory.specs.View.{View, level, resource, isAbove, largestBelow, uses, ceiling}
 use Rattle.theory.specs.Demand.{sharedCT, otherCT, allCT, highCT, DB, Load, loadOf, S, O, F, L, demandWith, demandOf}
-use Rattle.theory.specs.Verdict.{verdictOf, Right, Rises}
-use Rattle.theory.specs.Harder.{Harder, Runs}
+use Rattle.theory.specs.Verdict.{verdictOf, Right}
+use Rattle.theory.proofs.VerdictLaws.{Rises, keeps-bound, verdict-right}
+use Rattle.theory.specs.Harder.{Harder}
 use Rattle.theory.proofs.WorkLaws.{workload-rises, ceilDiv-rises}
-use Rattle.theory.proofs.VerdictLaws.{keeps-bound, verdict-right}
 use Rattle.theory.proofs.PassLaws.{ceiling-above}
+
+-- what the analysis needs of a table to be monotone at all: a processor, and no period of 0
+pub record Runs (v : View) : Type 0 where
+  pub cpus : 1 ≤ v .cpus
+  pub T : (l : ℕ) → l < v .n → 1 ≤ v .T (level l)
 
 -- never less for a longer t and a shorter period
 abbrev pub RisingLoad : Load → Type 0

@@ -1,9 +1,9 @@
 -- The laws of the analysis.
 --   WorkLaws      workload-rises, workload-bound, workload-none, ceilDiv-rises
---   VerdictLaws   From, from-start, from-step, found, past; right-unique, verdict-right, verdict-is, keeps-bound;
+--   VerdictLaws   Rises, From, from-start, from-step, found, past; right-unique, verdict-right, verdict-is, keeps-bound;
 --                 climb, meets-by, misses-by
---   PassLaws      above-slot, ceiling-above, split-all, over-above, largest-none, where-used
---   DemandLaws    RisingLoad, demand-start, demand-le, harder-refl, demand-rises, harder-keeps
+--   PassLaws      ceiling-above, split-all, largest-none, where-used
+--   DemandLaws    Runs, RisingLoad, demand-start, demand-le, harder-refl, demand-rises, harder-keeps
 pub mod CasesHold
 pub mod WorkLaws
 pub mod VerdictLaws

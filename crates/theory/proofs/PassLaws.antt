@@ -13,14 +13,11 @@ use Rattle.table.specs.declared.Resource.{Resource}
 use Rattle.table.specs.Limits.{maxResources}
 use Rattle.basics.specs.Choice.{only}
 use Rattle.basics.specs.Over.{sumTo, maxTo, firstTo}
-use Rattle.basics.proofs.SumLaws.{sum-part, sum-bound, sum-eq, sum-add, sum-rest}
+use Rattle.basics.proofs.SumLaws.{sum-part, sum-bound, sum-eq, sum-add}
 use Rattle.basics.proofs.MaxLaws.{max-bound}
 use Rattle.basics.proofs.FirstIndexLaws.{First, first-is}
-use Rattle.theory.specs.View.{View, level, resource, isAbove, overAbove, uses, ceiling}
+use Rattle.theory.specs.View.{View, level, resource, isAbove, uses, ceiling}
 use Rattle.theory.specs.Demand.{sharedCT, otherCT, allCT}
-
-pub above-slot : (l i : ℕ) → isAbove (level l) (level i) ≡ ltb l i
-above-slot l i = leb·suc-suc (suc l) i
 
 -- the tests of two facts that go together are equal
 same-test : (a b c d : ℕ) → (a < b → c < d) → (c < d → a < b) → Dec (a < b) → ltb a b ≡ ltb c d
@@ -41,6 +38,9 @@ first-above n i f g h w d =
     go (yes l) s = l
     go (no m) s = absurd (omega (arith, sum-bound i 0 g (λ j k. ltb-false 0 (g j) (w .clear j (omega arith)))))
 
+above-slot : (l i : ℕ) → isAbove (level l) (level i) ≡ ltb l i
+above-slot l i = leb·suc-suc (suc l) i
+
 -- a resource's ceiling is above i exactly if the requests for it above i add up to something
 pub ceiling-above : (v : View) (i : ℕ) (k : Resource) → i ≤ v .n
     → isAbove (ceiling v k) (level i) ≡ ltb 0 (sumTo i (λ j. v .N (level j) k))
@@ -58,18 +58,8 @@ pub split-all : (v : View) (i l : Level) → sharedCT v i l + otherCT v i l ≡ 
 unfolding sharedCT otherCT allCT
 split-all v i l = sum-add maxResources _ _ ∙ sum-eq maxResources _ _ (λ k _. both (uses v i (resource k)) (v .CT l (resource k)))
 
--- a test between two slots, as a choice
-when-above : (l i x : ℕ) → l < i → only (isAbove (level l) (level i)) x ≡ x
-when-above l i x h = rw (lt-ltb (suc l) (suc i) (omega arith))
-
 not-above : (l i x : ℕ) → i ≤ l → only (isAbove (level l) (level i)) x ≡ 0
 not-above l i x h = rw (le-ltb (suc l) (suc i) (omega arith))
-
--- the tasks above i are the first i
-pub over-above : (v : View) (i : ℕ) (g : Level → ℕ) → i ≤ v .n → overAbove v (level i) g ≡ sumTo i (λ l. g (level l))
-over-above v i g h =
-    sum-rest i (v .n) _ h (λ l k. not-above l i (g (level l)) k)
-    ∙ sum-eq i _ _ (λ l k. when-above l i (g (level l)) k)
 
 -- none of the first i + 1 tasks is below i
 pub largest-none : (i : ℕ) (g : Level → ℕ) → 0 ≡ maxTo (i + 1) (λ l. only (isAbove (level i) (level l)) (g (level l)))

@@ -12,7 +12,11 @@ use Rattle.basics.specs.Choice.{pick}
 use Rattle.basics.proofs.FirstIndexLaws.{First, first-is}
 use Rattle.theory.specs.declared.Verdict.{Verdict}
 use Rattle.theory.specs.declared.Verdict.the-variants.{Meets, Misses}
-use Rattle.theory.specs.Verdict.{verdictOf, Least, Right, Rises}
+use Rattle.theory.specs.Verdict.{verdictOf, Least, Right}
+
+-- f never falls
+abbrev pub Rises : (ℕ → ℕ) → Type 0
+Rises f = (s t : ℕ) → s ≤ t → f s ≤ f t
 
 -- every answer is at least t: what the loop knows
 abbrev pub From : (ℕ → ℕ) → ℕ → Type 0

@@ -19,8 +19,3 @@ pub record Harder (v w : View) : Type 0 where
   pub D : (l : ℕ) → l < v .n → w .D (level l) ≡ v .D (level l)
   pub CT : (l k : ℕ) → l < v .n → k < maxResources → w .CT (level l) (resource k) ≡ v .CT (level l) (resource k)
   pub pairs : (l k : ℕ) → l < v .n → k < maxResources → uses w (level l) (resource k) ≡ uses v (level l) (resource k)
-
--- what the analysis needs of a table to be monotone at all: a processor, and no period of 0
-pub record Runs (v : View) : Type 0 where
-  pub cpus : 1 ≤ v .cpus
-  pub T : (l : ℕ) → l < v .n → 1 ≤ v .T (level l)

@@ -26,7 +26,3 @@ None f D = (s : ℕ) → 1 ≤ s → s ≤ D → f s ≤ s → ⊥
 abbrev pub Right : (ℕ → ℕ) → ℕ → Verdict → Type 0
 Right f D (Meets t) = Least f D t
 Right f D Misses = None f D
-
--- f never falls
-abbrev pub Rises : (ℕ → ℕ) → Type 0
-Rises f = (s t : ℕ) → s ≤ t → f s ≤ f t

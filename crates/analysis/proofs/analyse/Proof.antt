@@ -64,7 +64,8 @@ use Rattle.table.specs.declared.Table.{Table}
 use Rattle.table.specs.declared.Checked.the-variants.{Fine}
 use Rattle.table.specs.Rules.{tableFault}
 use Rattle.analysis.specs.Answers.{analysisFault, written, recordOf, records, analysed}
-use Rattle.analysis.proofs.RowLaws.{row-length, row-next, row-start, row-last, written-room, written-most, written-asks}
+use Rattle.analysis.proofs.RowLaws.{row-length, row-next, row-start, row-last}
+use Rattle.analysis.proofs.WrittenLaws.{written-room, written-most, written-asks}
 use Rattle.analysis.proofs.Record as T
 use Rattle.analysis.proofs.Record.Laws as T′
 use Rattle.table.proofs.Table as B

@@ -9,7 +9,8 @@ use Rattle.table.specs.declared.Checked.the-variants.{Fine}
 use Rattle.table.specs.Limits.{maxTasks}
 use Rattle.analysis.specs.declared.Record.{Record}
 use Rattle.analysis.specs.Answers.{analysisFault, records}
-use Rattle.analysis.proofs.RowLaws.{row-next, row-start, fits, row-fine, row-refused}
+use Rattle.analysis.proofs.RowLaws.{row-next, row-start}
+use Rattle.analysis.proofs.WrittenLaws.{fits, row-fine, row-refused}
 use Rattle.analysis.proofs.analyse_all.Statement.{statement}
 use Rattle.analysis.proofs.analyse_all.Tie as tie
 

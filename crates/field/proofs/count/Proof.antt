@@ -1,6 +1,6 @@
 -- `field::count` meets its contract: each `return` is a law of `countField`. Assumes nothing.
 use Rattle.field.proofs.FoundLaws.{count-long, count-none, count-high, count-open, count-ok}
-use Rattle.field.specs.Number.{runOf}
+use Rattle.field.specs.Runs.{runOf}
 use Rattle.field.specs.declared.Run.the-variants.{Of}
 use Rattle.basics.proofs.ChoiceLaws.{stops, passes}
 use mathlib.Core.Path.{_≡_, sym, _∙_}

@@ -8,7 +8,8 @@ use lib.ListN.{drop}
 use lib.Seq.{drop-drop}
 use Rattle.basics.proofs.ChoiceLaws.{stops, passes}
 use Rattle.field.specs.declared.Run.the-variants.{Of}
-use Rattle.field.specs.Number.{runOf, ends}
+use Rattle.field.specs.Number.{ends}
+use Rattle.field.specs.Runs.{runOf}
 use Rattle.field.proofs.DigitLaws.{run-small}
 use Rattle.field.proofs.FoundLaws.{fraction-long, fraction-none, fraction-high, fraction-open, fraction-ok}
 use borrow.Author.Needs.{needs}

@@ -5,7 +5,8 @@ use mathlib.Core.List.{List, [], _∷_}
 use native.Mathlib.Omega.{arith}
 use borrow.Author.Needs.{needs}
 use lib.ListN.{length, getD, take, drop}
-use Rattle.field.specs.Number.{digits, number, runOf}
+use Rattle.field.specs.Number.{digits, number}
+use Rattle.field.specs.Runs.{runOf}
 use Rattle.field.proofs.DigitLaws.{digits-none, digits-low, digits-high, digits-more, run-of, run-long, ten, room}
 use Rattle.field.proofs.leading.Statement.{statement}
 use Rattle.field.proofs.leading.Tie as tie

@@ -3,7 +3,7 @@ use mathlib.Core.Path.{_≡_, sym, _∙_}
 use native.Mathlib.Omega.{arith}
 use Rattle.basics.proofs.ChoiceLaws.{stops, passes}
 use Rattle.field.specs.declared.Run.the-variants.{Of}
-use Rattle.field.specs.Number.{runOf}
+use Rattle.field.specs.Runs.{runOf}
 use Rattle.field.proofs.DigitLaws.{run-small}
 use Rattle.field.proofs.FoundLaws.{time-long, time-none, time-whole, time-other, time-fraction}
 use borrow.Author.Needs.{needs}

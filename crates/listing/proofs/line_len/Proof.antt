@@ -3,7 +3,7 @@ use Prim.Native.Nat.{_+_, _-_, _≤_}
 use mathlib.Core.Path.{_≡_}
 use native.Mathlib.Omega.{arith}
 use lib.ListN.{length, drop}
-use Rattle.listing.specs.Lines.{line}
+use Rattle.listing.specs.FirstLine.{line}
 use Rattle.listing.proofs.LineLaws.{line-end, line-more, line-none}
 use Rattle.listing.proofs.line_len.Statement.{statement}
 use Rattle.listing.proofs.line_len.Tie as tie

@@ -3,8 +3,7 @@ use Prim.Native.Nat.{_≤_, _-_, _+_}
 use native.Mathlib.Nat.{div-le-self}
 use native.Mathlib.Omega.{arith}
 use borrow.Author.Needs.{needs}
-use Rattle.analysis.proofs.RoundLaws.{Summed, summed-none, summed-more, roundOf, round-is}
-use Rattle.analysis.proofs.RoundLaws.{Sought, sought-start, Round, round-more, round-meets, round-misses}
+use Rattle.analysis.proofs.RoundLaws.{Summed, summed-none, summed-more, roundOf, round-is, Sought, sought-start, Round, round-more, round-meets, round-misses}
 use Rattle.analysis.proofs.rounds.verdict_of.Statement.{statement}
 use Rattle.analysis.proofs.rounds.verdict_of.Tie as tie
 

@@ -5,7 +5,7 @@ use mathlib.Core.Path.{_≡_, refl, sym, ap, _∙_}
 use mathlib.Core.Bool.{Bool, true, false, false≢true, true≢false}
 use mathlib.Core.List.{List, [], _∷_, _++_}
 use native.Mathlib.Omega.{arith}
-use lib.ListN.{length, drop, length-append}
+use lib.ListN.{length, drop}
 use lib.Seq.{drop-drop, drop-append-seam}
 use lib.Dec.{eqb}
 use borrow.Author.Tests.{eqb-true, ne-eqb}
@@ -70,9 +70,6 @@ first-split (b ∷ s) = go (isDigit b) refl (first-split s)
 
 pub first-rest : (s : List ℕ) → drop (length (digits s)) (first s) ≡ first (drop (length (digits s)) s)
 first-rest s = ap (drop (length (digits s))) (first-split s) ∙ drop-append-seam (digits s) _
-
-pub first-length : (s : List ℕ) → length (first s) ≡ length (digits s) + length (first (drop (length (digits s)) s))
-first-length s = ap length (first-split s) ∙ length-append (digits s) _
 
 -- ---- the field alone
 

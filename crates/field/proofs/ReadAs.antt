@@ -12,7 +12,7 @@ use Rattle.basics.proofs.ChoiceLaws.{and-true, within-true}
 use Rattle.field.specs.declared.Field.{Field}
 use Rattle.field.specs.declared.Field.the-variants.{Value, Bad}
 use Rattle.field.specs.Number.{digits, number, first, ends, point, micros, fraction, timeField, countField}
-use Rattle.field.proofs.FirstLaws.{first-none, first-point, first-split}
+use Rattle.field.proofs.FirstField.{first-none, first-point, first-split}
 
 -- ---- what a field is that reads as a number
 
