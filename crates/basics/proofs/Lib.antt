@@ -1,6 +1,6 @@
 -- Each word's laws, stated once.
 --   ChoiceLaws       stops, passes, and-true, pick-when, within-in, within-low, within-high, within-true, only-below
---   SumLaws          sum-none, sum-more, sum-le, sum-rises, sum-part, sum-bound, sum-eq, sum-add, sum-rest, sum-some, sum-wider
+--   SumLaws          sum-none, sum-more, sum-le, sum-rises, sum-part, sum-bound, sum-eq, sum-add, sum-some, sum-wider
 --   MaxLaws          max-more, max-bound, max-le, max-rises, max-wider
 --   FirstIndexLaws   first-none, first-more, First, first-is
 --   JoinLaws         join-none, join-more, join-length, join-room, join-eq, join-bound, join-from

@@ -54,16 +54,6 @@ unfolding sumTo
 sum-add zero g h = refl
 sum-add (suc n) g h = omega (arith, sum-add n g h)
 
--- nothing from m on, so the sum stays
-pub sum-rest : (m n : ℕ) (g : ℕ → ℕ) → m ≤ n → ((k : ℕ) → m ≤ k → g k ≡ 0) → sumTo n g ≡ sumTo m g
-unfolding sumTo
-sum-rest m zero g h z = let e : m ≡ 0 = omega arith in rw e
-sum-rest m (suc n) g h z = go (ℕ-discrete m (suc n)) (λ l. sum-rest m n g l z)
-  where
-    go : Dec (m ≡ suc n) → (m ≤ n → sumTo n g ≡ sumTo m g) → sumTo (suc n) g ≡ sumTo m g
-    go (yes e) ih = rw e
-    go (no d) ih = omega (arith, ih (omega arith), z n (omega arith))
-
 -- a sum is something exactly if a value is
 plus-some : (a b : ℕ) → ltb 0 (a + b) ≡ (ltb 0 a || ltb 0 b)
 plus-some zero b = rw zero-add

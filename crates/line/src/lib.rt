@@ -7,6 +7,7 @@ ghost use lib.Dec.{eqb, ltb};
 ghost use Rattle.basics.specs.Text.{bytes};
 ghost use Rattle.field.specs.Number.{first, timeField, countField};
 ghost use Rattle.field.specs.declared.Field.the-variants.{Value};
+ghost use Rattle.line.specs.declared.Said.the-variants.{Not};
 ghost use Rattle.line.specs.Fields.{fieldCount, same, form};
 ghost use Rattle.line.specs.Places.{placed};
 ghost use Rattle.line.specs.Line.{countIn, timeIn, cpusLine, taskLine, useLine, lineSays};
@@ -35,6 +36,16 @@ pub enum Said {
     Task(u32, u32, u32),
     Use(Resource, Pair),
     Not(Refusal),
+}
+
+// Line `number` is refused.
+fn refuse(fault: Fault, number: u32) -> Said
+    ensures { λ r. ⌜ r ≡ Not (record { fault = fault; place = number }) ⌝ }
+{
+    Said::Not(Refusal {
+        fault,
+        place: number,
+    })
 }
 
 // How many fields the line has, or 0 where one is empty.
@@ -124,10 +135,7 @@ fn cpus_of(number: u32, m: u32) -> Said
     ensures { λ r. ⌜ r ≡ cpusLine number (Value m 0) ⌝ }
 {
     if !table::rules::in_range(m, Table::MAX_CPUS) {
-        return Said::Not(Refusal {
-            fault: Fault::OutOfRange,
-            place: number,
-        });
+        return refuse(Fault::OutOfRange, number);
     }
     Said::Cpus(m)
 }
@@ -137,10 +145,7 @@ fn task_of(past: Past, number: u32, period: u32, run: u32, deadline: u32) -> Sai
     ensures { λ r. ⌜ r ≡ taskLine past number (Value period 0) (Value run 0) (Value deadline 0) ⌝ }
 {
     if Table::MAX_TASKS <= past.tasks {
-        return Said::Not(Refusal {
-            fault: Fault::TooManyTasks,
-            place: number,
-        });
+        return refuse(Fault::TooManyTasks, number);
     }
     if let Checked::Refused(r) = table::rules::times(number, period, run, deadline) {
         return Said::Not(r);
@@ -153,28 +158,16 @@ fn use_of(past: Past, number: u32, k: Resource, p: Pair) -> Said
     ensures { λ r. ⌜ r ≡ useLine past number (Value (k .0) 0) (Value (p .requests) 0) (Value (p .longest) 0) (Value (p .total) 0) ⌝ }
 {
     if !table::rules::in_range(k.0, RESOURCES) {
-        return Said::Not(Refusal {
-            fault: Fault::OutOfRange,
-            place: number,
-        });
+        return refuse(Fault::OutOfRange, number);
     }
     if !table::rules::used_in_range(p) {
-        return Said::Not(Refusal {
-            fault: Fault::OutOfRange,
-            place: number,
-        });
+        return refuse(Fault::OutOfRange, number);
     }
     if k.0 <= past.last.0 {
-        return Said::Not(Refusal {
-            fault: Fault::NotRising,
-            place: number,
-        });
+        return refuse(Fault::NotRising, number);
     }
     if !table::rules::totals_fit(p, past.sum as u64 + p.total as u64, past.run) {
-        return Said::Not(Refusal {
-            fault: Fault::BadTotals,
-            place: number,
-        });
+        return refuse(Fault::BadTotals, number);
     }
     Said::Use(k, p)
 }
@@ -185,10 +178,7 @@ fn cpus_line(number: u32, line: &[u8]) -> Said
     ensures { λ r. ⌜ r ≡ cpusLine number (countIn (now (line .entry)) 1) ⌝ }
 {
     let Field::Value(m, _) = count_at(line, 5) else {
-        return Said::Not(Refusal {
-            fault: Fault::BadField,
-            place: number,
-        });
+        return refuse(Fault::BadField, number);
     };
     cpus_of(number, m)
 }
@@ -199,22 +189,13 @@ fn task_line(past: Past, number: u32, line: &[u8]) -> Said
     ensures { λ r. ⌜ r ≡ taskLine past number (timeIn (now (line .entry)) 1) (timeIn (now (line .entry)) 2) (timeIn (now (line .entry)) 3) ⌝ }
 {
     let Field::Value(period, run_at) = time_at(line, 5) else {
-        return Said::Not(Refusal {
-            fault: Fault::BadField,
-            place: number,
-        });
+        return refuse(Fault::BadField, number);
     };
     let Field::Value(run, deadline_at) = time_at(line, run_at) else {
-        return Said::Not(Refusal {
-            fault: Fault::BadField,
-            place: number,
-        });
+        return refuse(Fault::BadField, number);
     };
     let Field::Value(deadline, _) = time_at(line, deadline_at) else {
-        return Said::Not(Refusal {
-            fault: Fault::BadField,
-            place: number,
-        });
+        return refuse(Fault::BadField, number);
     };
     task_of(past, number, period, run, deadline)
 }
@@ -225,28 +206,16 @@ fn use_line(past: Past, number: u32, line: &[u8]) -> Said
     ensures { λ r. ⌜ r ≡ useLine past number (countIn (now (line .entry)) 1) (countIn (now (line .entry)) 2) (timeIn (now (line .entry)) 3) (timeIn (now (line .entry)) 4) ⌝ }
 {
     let Field::Value(k, requests_at) = count_at(line, 4) else {
-        return Said::Not(Refusal {
-            fault: Fault::BadField,
-            place: number,
-        });
+        return refuse(Fault::BadField, number);
     };
     let Field::Value(requests, longest_at) = count_at(line, requests_at) else {
-        return Said::Not(Refusal {
-            fault: Fault::BadField,
-            place: number,
-        });
+        return refuse(Fault::BadField, number);
     };
     let Field::Value(longest, total_at) = time_at(line, longest_at) else {
-        return Said::Not(Refusal {
-            fault: Fault::BadField,
-            place: number,
-        });
+        return refuse(Fault::BadField, number);
     };
     let Field::Value(total, _) = time_at(line, total_at) else {
-        return Said::Not(Refusal {
-            fault: Fault::BadField,
-            place: number,
-        });
+        return refuse(Fault::BadField, number);
     };
     use_of(
         past,
@@ -292,7 +261,7 @@ fn use_here(line: &[u8], n: usize, tasks: usize) -> bool
     0 < tasks
 }
 
-// Line `number` of a listing.
+// What line `number` says, after what the lines before it leave.
 pub fn line_of(past: Past, number: u32, line: &[u8]) -> Said
     ensures { λ r. ⌜ r ≡ lineSays past number (now (line .entry)) ⌝ }
 {
@@ -306,8 +275,5 @@ pub fn line_of(past: Past, number: u32, line: &[u8]) -> Said
     if use_here(line, n, past.tasks) {
         return use_line(past, number, line);
     }
-    Said::Not(Refusal {
-        fault: Fault::BadForm,
-        place: number,
-    })
+    refuse(Fault::BadForm, number)
 }

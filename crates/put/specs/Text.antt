@@ -14,7 +14,7 @@ abbrev pub digitsOf : ℕ → ℕ → List ℕ
 digitsOf zero n = []
 digitsOf (suc k) n = digitsOf k (n / 10) ++ ((48 + n % 10) ∷ [])
 
--- how many digits n has, of a number of at most ten; 0 has one
+-- how many digits n has, 0 having one; no number here has more than ten
 unfoldable pub width : ℕ → ℕ
 width n =
     pick (ltb n 10) 1

@@ -1,6 +1,6 @@
 -- A table is accepted exactly if nothing is said against it.
 -- Assumes nothing.
-use Prim.Native.Nat.{ℕ, _+_, _≤_, _<_}
+use Prim.Native.Nat.{ℕ, _+_}
 use mathlib.Core.Path.{_≡_}
 use native.Mathlib.Nat.{le-trans}
 use native.Mathlib.Omega.{arith}
@@ -9,7 +9,7 @@ use lib.Dec.{leb}
 use Rattle.basics.specs.Choice.{within}
 use Rattle.basics.specs.Over.{sumTo}
 use Rattle.basics.proofs.ChoiceLaws.{within-in, within-true}
-use Rattle.basics.proofs.SumLaws.{sum-rises, sum-part}
+use Rattle.basics.proofs.SumLaws.{sum-rises}
 use Rattle.table.specs.declared.Task.{Task}
 use Rattle.table.specs.declared.Table.{Table}
 use Rattle.table.specs.declared.Fault.the-variants.{OutOfRange, TooManyTasks, NoTask}
@@ -41,10 +41,6 @@ task-fine place x g =
     rw (times-fine place (x .period) (x .run) (x .deadline) (g .times))
     (first-fine maxResources (pairFaultOf place x)
     (λ k h. pair-fine place (pairOf x k) _ _ (g .pair k h) (le-trans (sum-rises (k + 1) maxResources (totalOf x) (omega arith)) (g .totals))))
-
--- a pair's CT is at most the task's C
-pub total-run : (x : Task) (k : ℕ) → GoodTask x → k < maxResources → totalOf x k ≤ x .run
-total-run x k g h = le-trans (sum-part maxResources k (totalOf x) h) (g .totals)
 
 -- ---- the table
 

@@ -13,8 +13,8 @@ m-at c = form-second (bytes "cpus") 0 _ (lit≤ tt) (c .pre)
 returns : tie.Need-returns
 unfolding cpusLine
 returns c =
-    let b = c .before .before in
-    rw (bad-field count-kind (m-at (b .before .before)) (b .count-at .ensures) (c .enum-told .given .1))
+    let b = c .before .before .before in
+    rw (bad-field count-kind (m-at (b .before .before)) (b .count-at .ensures) (c .before .enum-told .given .1)) (c .refuse .ensures)
 
 returns-2 : tie.Need-returns-2
 unfolding cpusLine
@@ -26,4 +26,4 @@ returns-2 c =
 pub cpus-line-spec : {M : Type 1} → statement M
 cpus-line-spec =
     tie.close
-    (tie.spec (λ c κs. search needs) (λ c. search needs) (λ c. search needs) returns (λ c κs. search needs) returns-2)
+    (tie.spec (λ c κs. search needs) (λ c. search needs) (λ c. search needs) (λ c κs. search needs) returns (λ c κs. search needs) returns-2)

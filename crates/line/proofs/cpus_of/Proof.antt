@@ -7,11 +7,11 @@ use Rattle.line.proofs.cpus_of.Tie as tie
 
 returns : tie.Need-returns
 unfolding cpusLine
-returns c = simp (stops (c .before .in-range .ensures) (c .if1 .taken))
+returns c = simp (stops (c .before .before .in-range .ensures) (c .before .if1 .taken)) (c .refuse .ensures)
 
 returns-2 : tie.Need-returns-2
 unfolding cpusLine
 returns-2 c = simp (passes (c .before .in-range .ensures) (c .if1 .left))
 
 pub cpus-of-spec : {M : Type 1} → statement M
-cpus-of-spec = tie.close (tie.spec (λ c κs. search needs) returns returns-2)
+cpus-of-spec = tie.close (tie.spec (λ c κs. search needs) (λ c κs. search needs) returns returns-2)

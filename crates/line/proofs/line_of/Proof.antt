@@ -47,8 +47,8 @@ returns-3 c =
 returns-4 : tie.Need-returns-4
 unfolding lineSays
 returns-4 c =
-    let b = c .before in
-    rw (not-cpus (b .before .before .before), not-task (b .before), sym (b .use-here .ensures) ∙ c .if3 .left)
+    let b = c .before .before in
+    rw (not-cpus (b .before .before .before), not-task (b .before), sym (b .use-here .ensures) ∙ c .before .if3 .left) (c .refuse .ensures)
 
 pub line-of-spec : {M : Type 1} → statement M
 line-of-spec =
@@ -64,4 +64,4 @@ line-of-spec =
     (λ c κs. search needs)
     use-line-requires
     returns-3
-    returns-4)
+    (λ c κs. search needs) returns-4)

@@ -28,8 +28,8 @@ deadline c = states time-kind (run (c .before .before .before .before) .1) (c .b
 returns : tie.Need-returns
 unfolding taskLine
 returns c =
-    let b = c .before .before in
-    rw (bad-field time-kind (start (b .before .before)) (b .time-at .ensures) (c .enum-told .given .1))
+    let b = c .before .before .before in
+    rw (bad-field time-kind (start (b .before .before)) (b .time-at .ensures) (c .before .enum-told .given .1)) (c .refuse .ensures)
 
 time-at-requires-2 : tie.Need-time-at-requires-2
 time-at-requires-2 c κs = omega (arith, period (c .before) .1 .near)
@@ -37,9 +37,9 @@ time-at-requires-2 c κs = omega (arith, period (c .before) .1 .near)
 returns-2 : tie.Need-returns-2
 unfolding taskLine
 returns-2 c =
-    let b = c .before .before in
+    let b = c .before .before .before in
     let p = period (b .before .before) in
-    rw (p .0 .says, bad-field time-kind (p .1) (b .time-at2 .ensures) (c .enum-told2 .given .1))
+    rw (p .0 .says, bad-field time-kind (p .1) (b .time-at2 .ensures) (c .before .enum-told2 .given .1)) (c .refuse2 .ensures)
 
 time-at-requires-3 : tie.Need-time-at-requires-3
 time-at-requires-3 c κs = omega (arith, run (c .before) .1 .near)
@@ -47,9 +47,9 @@ time-at-requires-3 c κs = omega (arith, run (c .before) .1 .near)
 returns-3 : tie.Need-returns-3
 unfolding taskLine
 returns-3 c =
-    let b = c .before .before in
+    let b = c .before .before .before in
     let r = b .before .before in
-    rw (period (r .before .before .before .before) .0 .says, run r .0 .says, bad-field time-kind (run r .1) (b .time-at3 .ensures) (c .enum-told3 .given .1))
+    rw (period (r .before .before .before .before) .0 .says, run r .0 .says, bad-field time-kind (run r .1) (b .time-at3 .ensures) (c .before .enum-told3 .given .1)) (c .refuse3 .ensures)
 
 returns-4 : tie.Need-returns-4
 unfolding taskLine
@@ -65,14 +65,14 @@ task-line-spec =
     (λ c κs. search needs)
     (λ c. search needs)
     (λ c. search needs)
-    returns
+    (λ c κs. search needs) returns
     time-at-requires-2
     (λ c. search needs)
     (λ c. search needs)
-    returns-2
+    (λ c κs. search needs) returns-2
     time-at-requires-3
     (λ c. search needs)
     (λ c. search needs)
-    returns-3
+    (λ c κs. search needs) returns-3
     (λ c κs. search needs)
     returns-4)

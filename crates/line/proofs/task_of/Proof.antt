@@ -8,7 +8,7 @@ use Rattle.line.proofs.task_of.Tie as tie
 
 returns : tie.Need-returns
 unfolding taskLine
-returns c = simp (le-ltb _ _ (c .if1 .taken))
+returns c = simp (le-ltb _ _ (c .before .if1 .taken)) (c .refuse .ensures)
 
 returns-2 : tie.Need-returns-2
 unfolding taskLine
@@ -24,4 +24,4 @@ returns-3 c =
 
 pub task-of-spec : {M : Type 1} → statement M
 task-of-spec =
-    tie.close (tie.spec returns (λ c κs. search needs) (λ c. search needs) returns-2 (λ c. search needs) returns-3)
+    tie.close (tie.spec (λ c κs. search needs) returns (λ c κs. search needs) (λ c. search needs) returns-2 (λ c. search needs) returns-3)

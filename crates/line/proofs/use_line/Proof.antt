@@ -32,8 +32,8 @@ total c = states time-kind (longest (c .before .before .before .before) .1) (c .
 returns : tie.Need-returns
 unfolding useLine
 returns c =
-    let b = c .before .before in
-    rw (bad-field count-kind (start (b .before .before)) (b .count-at .ensures) (c .enum-told .given .1))
+    let b = c .before .before .before in
+    rw (bad-field count-kind (start (b .before .before)) (b .count-at .ensures) (c .before .enum-told .given .1)) (c .refuse .ensures)
 
 count-at-requires-2 : tie.Need-count-at-requires-2
 count-at-requires-2 c κs = omega (arith, k (c .before) .1 .near)
@@ -41,9 +41,9 @@ count-at-requires-2 c κs = omega (arith, k (c .before) .1 .near)
 returns-2 : tie.Need-returns-2
 unfolding useLine
 returns-2 c =
-    let b = c .before .before in
+    let b = c .before .before .before in
     let l = k (b .before .before) in
-    rw (l .0 .says, bad-field count-kind (l .1) (b .count-at2 .ensures) (c .enum-told2 .given .1))
+    rw (l .0 .says, bad-field count-kind (l .1) (b .count-at2 .ensures) (c .before .enum-told2 .given .1)) (c .refuse2 .ensures)
 
 time-at-requires : tie.Need-time-at-requires
 time-at-requires c κs = omega (arith, requests (c .before) .1 .near)
@@ -51,9 +51,9 @@ time-at-requires c κs = omega (arith, requests (c .before) .1 .near)
 returns-3 : tie.Need-returns-3
 unfolding useLine
 returns-3 c =
-    let b = c .before .before in
+    let b = c .before .before .before in
     let r = b .before .before in
-    rw (k (r .before .before .before .before) .0 .says, requests r .0 .says, bad-field time-kind (requests r .1) (b .time-at .ensures) (c .enum-told3 .given .1))
+    rw (k (r .before .before .before .before) .0 .says, requests r .0 .says, bad-field time-kind (requests r .1) (b .time-at .ensures) (c .before .enum-told3 .given .1)) (c .refuse3 .ensures)
 
 time-at-requires-2 : tie.Need-time-at-requires-2
 time-at-requires-2 c κs = omega (arith, longest (c .before) .1 .near)
@@ -61,10 +61,10 @@ time-at-requires-2 c κs = omega (arith, longest (c .before) .1 .near)
 returns-4 : tie.Need-returns-4
 unfolding useLine
 returns-4 c =
-    let b = c .before .before in
+    let b = c .before .before .before in
     let l = b .before .before in
     let r = l .before .before .before .before in
-    rw (k (r .before .before .before .before) .0 .says, requests r .0 .says, longest l .0 .says, bad-field time-kind (longest l .1) (b .time-at2 .ensures) (c .enum-told4 .given .1))
+    rw (k (r .before .before .before .before) .0 .says, requests r .0 .says, longest l .0 .says, bad-field time-kind (longest l .1) (b .time-at2 .ensures) (c .before .enum-told4 .given .1)) (c .refuse4 .ensures)
 
 returns-5 : tie.Need-returns-5
 unfolding useLine
@@ -81,18 +81,18 @@ use-line-spec =
     (λ c κs. search needs)
     (λ c. search needs)
     (λ c. search needs)
-    returns
+    (λ c κs. search needs) returns
     count-at-requires-2
     (λ c. search needs)
     (λ c. search needs)
-    returns-2
+    (λ c κs. search needs) returns-2
     time-at-requires
     (λ c. search needs)
     (λ c. search needs)
-    returns-3
+    (λ c κs. search needs) returns-3
     time-at-requires-2
     (λ c. search needs)
     (λ c. search needs)
-    returns-4
+    (λ c κs. search needs) returns-4
     (λ c κs. search needs)
     returns-5)

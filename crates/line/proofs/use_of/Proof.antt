@@ -12,13 +12,13 @@ use Rattle.line.proofs.use_of.Tie as tie
 
 returns : tie.Need-returns
 unfolding useLine
-returns c = simp (stops (c .before .in-range .ensures) (c .if1 .taken))
+returns c = simp (stops (c .before .before .in-range .ensures) (c .before .if1 .taken)) (c .refuse .ensures)
 
 returns-2 : tie.Need-returns-2
 unfolding useLine
 returns-2 c =
-    let a = c .before .before in
-    rw (passes (a .before .in-range .ensures) (a .if1 .left), stops (c .before .used-in-range .ensures) (c .if2 .taken))
+    let a = c .before .before .before in
+    rw (passes (a .before .in-range .ensures) (a .if1 .left), stops (c .before .before .used-in-range .ensures) (c .before .if2 .taken)) (c .refuse2 .ensures)
 
 -- the numbers are in range
 in-use : (c : tie.Else2) → let a = c .before .before .before .before .args in (within 1 16 (a .k .0) && usedInRange (a .p)) ≡ true
@@ -28,13 +28,13 @@ in-use c =
 
 returns-3 : tie.Need-returns-3
 unfolding useLine
-returns-3 c = rw (in-use (c .before .before .before), le-ltb _ _ (c .if3 .taken))
+returns-3 c = rw (in-use (c .before .before .before .before), le-ltb _ _ (c .before .if3 .taken)) (c .refuse3 .ensures)
 
 returns-4 : tie.Need-returns-4
 unfolding useLine
 returns-4 c =
-    let b = c .before .before .before .before in
-    rw (in-use (b .before .before .before), lt-ltb _ _ (b .if3 .left), stops (c .before .totals-fit .ensures) (c .if4 .taken))
+    let b = c .before .before .before .before .before in
+    rw (in-use (b .before .before .before), lt-ltb _ _ (b .if3 .left), stops (c .before .before .totals-fit .ensures) (c .before .if4 .taken)) (c .refuse4 .ensures)
 
 returns-5 : tie.Need-returns-5
 unfolding useLine
@@ -47,13 +47,13 @@ use-of-spec =
     tie.close
     (tie.spec
     (λ c κs. search needs)
-    returns
+    (λ c κs. search needs) returns
     (λ c κs. search needs)
-    returns-2
-    returns-3
+    (λ c κs. search needs) returns-2
+    (λ c κs. search needs) returns-3
     (λ c. search needs)
     (λ c. search needs)
     (λ c. search needs)
     (λ c κs. search needs)
-    returns-4
+    (λ c κs. search needs) returns-4
     returns-5)
