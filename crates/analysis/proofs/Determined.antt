@@ -6,7 +6,7 @@ use Rattle.basics.specs.Determined.{Determined}
 use Rattle.table.specs.declared.Table.{Table}
 use Rattle.table.specs.declared.Checked.{Checked}
 use Rattle.analysis.specs.declared.Record.{Record}
-use Rattle.analysis.specs.Answers.{Filled}
+use Rattle.analysis.specs.Answers.{FillsRow}
 use Rattle.analysis.proofs.bound.Reads as bound
 use Rattle.analysis.proofs.analyse_all.Reads as analyse-all
 
@@ -16,7 +16,7 @@ bound-determined a x y r s p q = p ∙ sym q
 pub analyse-all-determined : Determined (analyse-all.Learnt tt)
 analyse-all-determined a x y r s p q = λ j. record { answer = (p .0 ∙ sym (q .0)) j; rows = (p .1 ∙ sym (q .1)) j }
 
--- `analyse` is walked by hand, and the checker makes no `Learnt` of it: this is over `Filled`, which is the whole of its contract
+-- `analyse` is walked by hand, and the checker makes no `Learnt` of it: this is over `FillsRow`, which is the whole of its contract
 pub analyse-determined : (t : Table) (row : List Record) (r s : Checked) (x y : List Record)
-    → Filled t row r x → Filled t row s y → (r ≡ s) × (x ≡ y)
+    → FillsRow t row r x → FillsRow t row s y → (r ≡ s) × (x ≡ y)
 analyse-determined t row r s x y p q = (p .0 ∙ sym (q .0), p .1 ∙ sym (q .1))

@@ -20,11 +20,12 @@ use Rattle.theory.specs.View.{View, level, resource}
 use Rattle.theory.specs.Demand.{sharedCT, otherCT, allCT, highCT}
 use Rattle.theory.proofs.PassLaws.{split-all}
 use Rattle.analysis.specs.declared.shares.Marks.{Marks}
-use Rattle.analysis.specs.declared.shares.Share.{Share}
+use Rattle.rounds.specs.declared.Share.{Share}
 use Rattle.analysis.specs.declared.shares.Above.{Above}
 use Rattle.analysis.specs.declared.shares.Below.{Below}
 use Rattle.analysis.specs.Tables.{viewOf}
-use Rattle.analysis.specs.Shares.{noShare, shareIn, ShareIs}
+use Rattle.rounds.specs.Shares.{noShare, shareIn}
+use Rattle.analysis.specs.Shares.{ShareIs}
 use Rattle.analysis.specs.Pass.{markedSum, totalSum, UsedBy, UpperIs, LowerIs, OwnIs, SharesAbove, SharesBelow}
 use Rattle.analysis.proofs.CeilingLaws.{AboveIs}
 

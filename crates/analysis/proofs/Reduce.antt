@@ -14,8 +14,9 @@ use Rattle.theory.specs.Work.{workload, ceilDiv}
 use Rattle.theory.specs.View.{View, level, isAbove}
 use Rattle.theory.specs.Demand.{loadOf, sharedCT, otherCT, allCT, highCT, S, O, F, L, demandWith, demandOf}
 use Rattle.theory.proofs.WorkLaws.{workload-none}
-use Rattle.analysis.specs.declared.shares.Shares.{Shares}
-use Rattle.analysis.specs.Shares.{shareAt, wholeOf, partOf, sharesDemand, SharesAre}
+use Rattle.rounds.specs.declared.Shares.{Shares}
+use Rattle.rounds.specs.Shares.{shareAt, wholeOf, partOf, sharesDemand}
+use Rattle.analysis.specs.Shares.{SharesAre}
 
 -- ---- a workload of units that count where a test holds
 

@@ -17,10 +17,11 @@ use Rattle.table.specs.At.{taskAt, totalOf}
 use Rattle.table.specs.Accepted.{GoodTask, Accepted}
 use Rattle.theory.specs.View.{level, resource, isAbove, uses, ceiling}
 use Rattle.theory.specs.Demand.{sharedCT, otherCT, highCT}
-use Rattle.analysis.specs.declared.shares.Share.{Share}
-use Rattle.analysis.specs.declared.shares.Shares.{Shares}
+use Rattle.rounds.specs.declared.Share.{Share}
+use Rattle.rounds.specs.declared.Shares.{Shares}
 use Rattle.analysis.specs.Tables.{viewOf}
-use Rattle.analysis.specs.Shares.{wholeUnits, oneUnits, twoUnits, ShareIs, SharesAre, Sound, SoundShare, Reduced}
+use Rattle.rounds.specs.Outcome.{maxBase, Sound, SoundShare}
+use Rattle.analysis.specs.Shares.{wholeUnits, oneUnits, twoUnits, ShareIs, SharesAre, Reduced}
 
 -- the CT up to a resource are a time
 pub totals-most : (x : Task) (k : ℕ) → GoodTask x → k < maxResources → sumTo k (totalOf x) + totalOf x k ≤ maxTime
@@ -62,20 +63,27 @@ module _ (t : Table) (i l : ℕ) (g : GoodTask (taskAt t l)) where
       }
 
 pub reduced : (t : Table) (i : ℕ) (s : Shares) → Accepted t → i < t .n → SharesAre (viewOf t) (level i) s
-    → s .base ≤ 1_000_000_000_000 → Reduced (viewOf t) (level i) s
+    → s .base ≤ maxBase → Reduced (viewOf t) (level i) s
 reduced t i s a h r b =
     let g = a .task i h .times in
     record {
       are = r;
       sound = record {
-        cpus-least = omega (arith, r .cpus, a .cpus-least);
-        cpus-most = omega (arith, r .cpus, a .cpus-most);
-        start-least = omega (arith, r .start, g .run-least);
-        start-base = omega (arith, r .start, r .base);
-        base-most = b;
-        tasks-most = omega (arith, r .n, a .tasks-most);
-        each = λ l q.
-            let p : l < t .n = omega (arith, r .n) in
-            share-sound t i l (a .task l p) _ (r .each l p);
+        head = record {
+          start-least = omega (arith, r .start, g .run-least);
+          start-base = omega (arith, r .start, r .base);
+          base-most = b;
+          cpus-least = omega (arith, r .cpus, a .cpus-least);
+          cpus-most = omega (arith, r .cpus, a .cpus-most);
+          tasks-most = omega (arith, r .n, a .tasks-most);
+          start-deadline = omega (arith, r .start, g .run-deadline);
+          deadline-most = omega (arith, g .deadline-period, g .period-most);
+        };
+        row = record {
+          tasks-most = omega (arith, r .n, a .tasks-most);
+          each = λ l q.
+              let p : l < t .n = omega (arith, r .n) in
+              share-sound t i l (a .task l p) _ (r .each l p);
+        };
       };
     }

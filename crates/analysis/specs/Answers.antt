@@ -1,10 +1,11 @@
 -- What the analysis answers: document 01, "Refusals by number" and "The analysis".
-use Prim.Native.Nat.{ℕ, zero, suc}
+use Prim.Native.Nat.{ℕ}
 use mathlib.Core.Path.{_≡_}
-use mathlib.Core.List.{List, [], _∷_, _++_}
+use mathlib.Core.List.{List, _++_}
 use lib.ListN.{length, drop}
 use lib.Dec.{leb}
-use Rattle.basics.specs.Choice.{pick, within}
+use Rattle.basics.specs.Choice.{within}
+use Rattle.basics.specs.Over.{rowTo}
 use Rattle.table.specs.declared.Level.{Level}
 use Rattle.table.specs.declared.Table.{Table}
 use Rattle.table.specs.declared.Fault.the-variants.{UnknownTask, TooShort}
@@ -42,22 +43,19 @@ abbrev pub orNone : Checked → ℕ → ℕ
 orNone Fine n = n
 orNone (Refused r) n = 0
 
-unfoldable pub written : Table → ℕ → ℕ
-written t room = orNone (analysisFault t room) (t .n)
+unfoldable pub recordCount : Table → ℕ → ℕ
+recordCount t room = orNone (analysisFault t room) (t .n)
 
 -- "Each verdict record holds the task's number and its verdict"
 unfoldable pub recordOf : Table → ℕ → Record
 recordOf t i = record { task = level i; verdict = verdictIn t (level i) }
 
--- the records of the first n tasks
-unfoldable pub records : Table → ℕ → List Record
-records t zero = []
-records t (suc n) = records t n ++ (recordOf t n ∷ [])
-
 -- the row afterwards: "After success the .. records past the last one written are unchanged"
 unfoldable pub analysed : Table → List Record → List Record
-analysed t row = records t (written t (length row)) ++ drop (written t (length row)) row
+analysed t row =
+    let n = recordCount t (length row) in
+    rowTo n (recordOf t) ++ drop n row
 
 -- what `analyse` answers of a table and a row, and what the row then holds
-abbrev pub Filled : Table → List Record → Checked → List Record → Type 0
-Filled t row answer after = (answer ≡ analysisFault t (length row)) × (after ≡ analysed t row)
+abbrev pub FillsRow : Table → List Record → Checked → List Record → Type 0
+FillsRow t row answer after = (answer ≡ analysisFault t (length row)) × (after ≡ analysed t row)

@@ -10,18 +10,18 @@ use Rattle.basics.specs.Over.{sumTo, maxTo}
 use Rattle.table.specs.declared.Level.{Level}
 use Rattle.table.specs.declared.Task.{Task}
 use Rattle.table.specs.declared.Table.{Table}
-use Rattle.table.specs.Limits.{maxTasks, maxResources, maxTime}
+use Rattle.table.specs.Limits.{maxTasks, maxResources, maxTime, maxCount}
 use Rattle.table.specs.At.{taskAt, pairOf, totalOf}
 use Rattle.theory.specs.View.{level, resource, isAbove}
 use Rattle.analysis.specs.declared.shares.Marks.{Marks}
 use Rattle.analysis.specs.declared.shares.Ceilings.{Ceilings}
 use Rattle.analysis.specs.declared.shares.Peaks.{Peaks}
 use Rattle.analysis.specs.declared.shares.Totals.{Totals}
-use Rattle.analysis.specs.declared.shares.Share.{Share}
+use Rattle.rounds.specs.declared.Share.{Share}
 use Rattle.analysis.specs.declared.shares.Above.{Above}
 use Rattle.analysis.specs.declared.shares.Below.{Below}
 use Rattle.analysis.specs.Tables.{viewOf}
-use Rattle.analysis.specs.Shares.{shareIn}
+use Rattle.rounds.specs.Shares.{shareIn}
 
 -- what is kept for the resource at slot k
 abbrev pub markAt : Marks → ℕ → Bool
@@ -69,7 +69,7 @@ waitAt m a k = pairOf a k .requests * peakAt m k
 
 pub record WaitIs (m : Peaks) (a : Task) (r : ℕ) : Type 0 where
   pub is : r ≡ sumTo maxResources (waitAt m a)
-  pub most : r ≤ 160_000_000_000
+  pub most : r ≤ maxResources * (maxCount * maxTime)
 
 -- ---- a task's CT, and its share
 

@@ -4,7 +4,8 @@ ghost use Prim.Native.Nat.{_<_};
 ghost use Rattle.table.specs.declared.Checked.the-variants.{Fine};
 ghost use Rattle.table.specs.Limits.{maxTasks};
 ghost use Rattle.table.specs.Rules.{tableFault};
-ghost use Rattle.analysis.specs.Answers.{boundOf, analysisFault, written, recordOf, analysed, Filled};
+ghost use Rattle.analysis.specs.Answers.{boundOf, analysisFault, recordCount, recordOf, analysed, FillsRow};
+use rounds::Outcome;
 use table::Checked;
 use table::Fault;
 use table::Level;
@@ -12,7 +13,6 @@ use table::Refusal;
 use table::Table;
 use theory::Verdict;
 
-mod rounds;
 mod shares;
 
 // The verdict on a task that was asked about, or why there is none.
@@ -39,18 +39,23 @@ fn record_at(t: Table, i: usize) -> Record
     ensures { λ r. ⌜ r ≡ recordOf t i ⌝ }
 {
     let a = t.tasks[i];
+    let task = Level((i + 1) as u32);
     let s = shares::shares_of(t, i);
-    Record {
-        task: Level((i + 1) as u32),
-        verdict: rounds::verdict_of(s, a.deadline),
-    }
+    let Outcome::Of(verdict) = rounds::verdict_of(s, a.deadline) else {
+        // the shares of an accepted table are sound: this is never reached
+        return Record {
+            task,
+            verdict: Verdict::Misses,
+        };
+    };
+    Record { task, verdict }
 }
 
 // The verdict on one task.
 pub fn bound(t: Table, task: Level) -> Answer
     ensures { λ r. ⌜ r ≡ boundOf t task ⌝ }
 {
-    if let Checked::Refused(r) = table::check(t) {
+    if let Checked::Refused(r) = checking::check(t) {
         return Answer::Unknown(r);
     }
     let number = task.0 as usize;
@@ -75,7 +80,7 @@ pub fn bound(t: Table, task: Level) -> Answer
 fn judge(t: Table, room: usize) -> Checked
     ensures { λ r. ⌜ r ≡ analysisFault t room ⌝ }
 {
-    if let Checked::Refused(r) = table::check(t) {
+    if let Checked::Refused(r) = checking::check(t) {
         return Checked::Refused(r);
     }
     if room < t.n {
@@ -89,7 +94,7 @@ fn judge(t: Table, room: usize) -> Checked
 
 // How many records are to be written: none where anything is said against it.
 fn todo(t: Table, room: usize) -> usize
-    ensures { λ r. ⌜ r ≡ written t room ⌝ }
+    ensures { λ r. ⌜ r ≡ recordCount t room ⌝ }
 {
     let Checked::Fine = judge(t, room) else {
         return 0;
@@ -99,7 +104,7 @@ fn todo(t: Table, room: usize) -> usize
 
 // The verdicts on all tasks, into the caller's row: decided above, stored here one by one.
 pub fn analyse(t: Table, row: &mut [Record]) -> Checked
-    ensures { λ r. ⌜ Filled t (now (row .entry)) r (now (row .exit)) ⌝ }
+    ensures { λ r. ⌜ FillsRow t (now (row .entry)) r (now (row .exit)) ⌝ }
 {
     let room = row.len();
     let n = todo(t, room);

@@ -1,6 +1,7 @@
-// Cutting a table down to what the analysis of one task reads, in one pass over the tasks. No function that a loop calls takes the table.
+// Cutting a table down to what the analysis of one task reads, in a pass over the tasks above it and one over those below. No function that a loop
+// calls takes the table. The resources of a task are gone through by slot, resource k at k - 1.
 ghost use mathlib.Core.Path.{_≡_};
-ghost use Prim.Native.Nat.{pred, _≤_, _<_, max};
+ghost use Prim.Native.Nat.{_<_, max};
 ghost use Rattle.basics.specs.Choice.{pick};
 ghost use Rattle.table.specs.declared.Checked.the-variants.{Fine};
 ghost use Rattle.table.specs.Rules.{tableFault};
@@ -9,38 +10,11 @@ ghost use Rattle.theory.specs.View.{level, isAbove};
 ghost use Rattle.analysis.specs.Tables.{viewOf};
 ghost use Rattle.analysis.specs.Shares.{Reduced};
 ghost use Rattle.analysis.specs.Pass.{Chosen, UsedBy, ceilingWith, CeilingsWith, HighIn, RaisedBy, SmallPeaks, TotalsAre, WaitIs, UpperIs, LowerIs, OwnIs, SharesAbove, SharesBelow};
+use rounds::Share;
+use rounds::Shares;
 use table::Level;
-use table::Resource;
 use table::Table;
 use table::Task;
-
-const RESOURCES: u32 = Table::MAX_RESOURCES as u32;
-
-// What one task's analysis reads of another: the units of it that count whole, and the two counts that are divided by m.
-pub(crate) struct Share {
-    pub period: u32,
-    pub deadline: u32,
-    pub whole: u32, // S
-    pub one: u32, // O, or L
-    pub two: u32, // F
-}
-
-// C, C + DB, m, and a share for each of the n tasks.
-pub(crate) struct Shares {
-    pub start: u32,
-    pub base: u64,
-    pub cpus: u64,
-    pub n: usize,
-    pub of: [Share; Table::MAX_TASKS],
-}
-
-// Resource k of a row stands at this slot.
-fn slot(k: Resource) -> usize
-    requires { ⌜ (1 ≤ k .0) × (k .0 ≤ 16) ⌝ }
-    ensures { λ r. ⌜ r ≡ pred (k .0) ⌝ }
-{
-    (k.0 - 1) as usize
-}
 
 // Whether a priority is strictly higher than another: its number is less.
 fn is_above(a: Level, b: Level) -> bool
@@ -88,7 +62,7 @@ fn only(on: bool, x: u32) -> u32
     if on { x } else { 0 }
 }
 
-fn unless(short: bool, x: u32) -> u32
+fn unless_short(short: bool, x: u32) -> u32
     ensures { λ r. ⌜ r ≡ pick short 0 x ⌝ }
 {
     if short { 0 } else { x }
@@ -100,7 +74,7 @@ fn most(a: u32, b: u32) -> u32
     if a < b { b } else { a }
 }
 
-pub(crate) fn wide(x: u32) -> u64
+fn wide(x: u32) -> u64
     ensures { λ r. ⌜ r ≡ x ⌝ }
 {
     x as u64
@@ -138,13 +112,12 @@ fn ceilings_with(known: Ceilings, b: Task, task: Level) -> Ceilings
     ensures { λ r. ⌜ CeilingsWith known b task r ⌝ }
 {
     let mut of = [Level(0); Table::MAX_RESOURCES];
-    let mut number: u32 = 1;
-    while number <= RESOURCES {
-        let k = slot(Resource(number));
+    let mut k: usize = 0;
+    while k < Table::MAX_RESOURCES {
         let p = b.pairs[k];
         let c = known.of[k];
         of[k] = ceiling_with(c, p.requests, task);
-        number = number + 1;
+        k = k + 1;
     }
     Ceilings { of }
 }
@@ -154,12 +127,11 @@ fn high(known: Ceilings, i: Level) -> Marks
     ensures { λ r. ⌜ HighIn known i r ⌝ }
 {
     let mut on = [false; Table::MAX_RESOURCES];
-    let mut number: u32 = 1;
-    while number <= RESOURCES {
-        let k = slot(Resource(number));
+    let mut k: usize = 0;
+    while k < Table::MAX_RESOURCES {
         let ceiling = known.of[k];
         on[k] = is_above(ceiling, i);
-        number = number + 1;
+        k = k + 1;
     }
     Marks { on }
 }
@@ -225,8 +197,8 @@ fn upper(mine: Marks, b: Task, short: bool) -> Share
         period: b.period,
         deadline: b.deadline,
         whole: u.marked,
-        one: unless(short, other),
-        two: unless(short, free),
+        one: unless_short(short, other),
+        two: unless_short(short, free),
     }
 }
 
@@ -240,7 +212,7 @@ fn lower(above: Marks, b: Task, short: bool) -> Share
         period: b.period,
         deadline: b.deadline,
         whole: 0,
-        one: unless(short, u.marked),
+        one: unless_short(short, u.marked),
         two: 0,
     }
 }

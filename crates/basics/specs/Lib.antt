@@ -1,9 +1,11 @@
 -- The words that definitions are made of.
 --   Choice   pick, only, within
---   Over     sumTo, maxTo, firstTo, joinTo: over the indices below n
+--   Over     sumTo, maxTo, allTo, firstTo, joinTo, rowTo: over the indices below n
 --   Text     bytes "cpus 2\n", putInto, lineOf
+--   Exactly  _exactly-if_
 --   Determined   when a contract determines the answer
 pub mod Choice
 pub mod Over
 pub mod Text
+pub mod Exactly
 pub mod Determined

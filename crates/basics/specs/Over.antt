@@ -1,7 +1,7 @@
 -- "Over the tasks", "over the resources": each is over the indices 0, 1, .., n − 1.
 use Prim.Native.Nat.{ℕ, zero, suc, _+_, max}
-use mathlib.Core.Bool.{Bool}
-use mathlib.Core.List.{List, [], _++_}
+use mathlib.Core.Bool.{Bool, true, _&&_}
+use mathlib.Core.List.{List, [], _∷_, _++_}
 use lib.Dec.{ltb}
 use Rattle.basics.specs.Choice.{pick}
 
@@ -15,6 +15,11 @@ unfoldable pub maxTo : ℕ → (ℕ → ℕ) → ℕ
 maxTo zero g = 0
 maxTo (suc n) g = max (maxTo n g) (g n)
 
+-- the test holds at each index below n
+unfoldable pub allTo : ℕ → (ℕ → Bool) → Bool
+allTo zero p = true
+allTo (suc n) p = allTo n p && p n
+
 -- the smallest index below n at which the test holds, n if there is none
 unfoldable pub firstTo : ℕ → (ℕ → Bool) → ℕ
 firstTo zero p = 0
@@ -24,3 +29,7 @@ firstTo (suc n) p = pick (ltb (firstTo n p) n) (firstTo n p) (pick (p n) n (suc 
 unfoldable pub joinTo : {A : Type 0} → ℕ → (ℕ → List A) → List A
 joinTo zero f = []
 joinTo (suc n) f = joinTo n f ++ f n
+
+-- the row g 0, .., g (n − 1)
+abbrev pub rowTo : {A : Type 0} → ℕ → (ℕ → A) → List A
+rowTo n g = joinTo n (λ k. g k ∷ [])

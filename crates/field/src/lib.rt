@@ -12,7 +12,7 @@ pub enum Field {
 }
 
 // A run of at most five digits: how many, and their number; or that there are more.
-pub enum Run {
+enum Run {
     Of(usize, u32),
     Long,
 }

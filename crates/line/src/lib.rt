@@ -134,7 +134,7 @@ fn count_at(line: &[u8], at: usize) -> Field
 fn cpus_of(number: u32, m: u32) -> Said
     ensures { λ r. ⌜ r ≡ cpusLine number (Value m 0) ⌝ }
 {
-    if !table::rules::in_range(m, Table::MAX_CPUS) {
+    if !rules::in_range(m, Table::MAX_CPUS) {
         return refuse(Fault::OutOfRange, number);
     }
     Said::Cpus(m)
@@ -147,7 +147,7 @@ fn task_of(past: Past, number: u32, period: u32, run: u32, deadline: u32) -> Sai
     if Table::MAX_TASKS <= past.tasks {
         return refuse(Fault::TooManyTasks, number);
     }
-    if let Checked::Refused(r) = table::rules::times(number, period, run, deadline) {
+    if let Checked::Refused(r) = rules::times(number, period, run, deadline) {
         return Said::Not(r);
     }
     Said::Task(period, run, deadline)
@@ -157,16 +157,16 @@ fn task_of(past: Past, number: u32, period: u32, run: u32, deadline: u32) -> Sai
 fn use_of(past: Past, number: u32, k: Resource, p: Pair) -> Said
     ensures { λ r. ⌜ r ≡ useLine past number (Value (k .0) 0) (Value (p .requests) 0) (Value (p .longest) 0) (Value (p .total) 0) ⌝ }
 {
-    if !table::rules::in_range(k.0, RESOURCES) {
+    if !rules::in_range(k.0, RESOURCES) {
         return refuse(Fault::OutOfRange, number);
     }
-    if !table::rules::used_in_range(p) {
+    if !rules::used_in_range(p) {
         return refuse(Fault::OutOfRange, number);
     }
     if k.0 <= past.last.0 {
         return refuse(Fault::NotRising, number);
     }
-    if !table::rules::totals_fit(p, past.sum as u64 + p.total as u64, past.run) {
+    if !rules::totals_fit(p, past.sum as u64 + p.total as u64, past.run) {
         return refuse(Fault::BadTotals, number);
     }
     Said::Use(k, p)

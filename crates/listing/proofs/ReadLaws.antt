@@ -105,7 +105,7 @@ module _ {s : List ℕ} {t : Table} {past : Past} {n at k : ℕ} {said : Said} (
   next-past = rw (x .says) (past-ok past n _ (x .left .ok))
 
   -- the past that it leaves fits its numbers
-  pub next-fits : (pastAfter past said .tasks ≤ 32) × (pastAfter past said .sum ≤ 4294967295)
+  pub next-fits : (pastAfter past said .tasks ≤ maxTasks) × (pastAfter past said .sum ≤ maxTime)
   next-fits = (next-past .tasks-most, omega (arith, next-past))
 
   pub next-line : {y : Said} → said ≡ y → Line past n (take (at + k - at) (drop at s)) y

@@ -3,7 +3,7 @@ ghost use mathlib.Core.Path.{_≡_};
 ghost use mathlib.Core.Bool.{true};
 ghost use Prim.Native.Nat.{_-_, _≤_};
 ghost use lib.ListN.{length};
-ghost use Rattle.table.specs.Limits.{maxResources, maxListing};
+ghost use Rattle.table.specs.Limits.{maxTasks, maxResources, maxTime, maxListing};
 ghost use Rattle.listing.specs.FirstLine.{line};
 ghost use Rattle.listing.specs.Read.{newTask, pastAfter, refused, withPair, readEnd, readListing};
 use line::Past;
@@ -24,7 +24,7 @@ pub struct Reading {
 
 // What a line leaves for the next one to be judged by.
 fn after(past: Past, said: Said) -> Past
-    requires { ⌜ (pastAfter past said .tasks ≤ 32) × (pastAfter past said .sum ≤ 4294967295) ⌝ }
+    requires { ⌜ (pastAfter past said .tasks ≤ maxTasks) × (pastAfter past said .sum ≤ maxTime) ⌝ }
     ensures { λ r. ⌜ r ≡ pastAfter past said ⌝ }
 {
     match said {

@@ -15,8 +15,8 @@ use Rattle.table.specs.declared.Task.{Task}
 use Rattle.table.specs.Limits.{maxTasks, maxResources}
 use Rattle.table.specs.Empty.{unusedPair, emptyTask}
 use Rattle.table.specs.At.{noTask, taskAt, pairOf, SameTask}
-use Rattle.table.specs.Accepted.{PairBounds, GoodTask}
-use Rattle.table.proofs.RuleLaws.{pair-bounds}
+use Rattle.table.specs.Accepted.{GoodTask}
+use Rattle.table.proofs.RuleLaws.{PairBounds, pair-bounds}
 use Rattle.table.proofs.Acceptance.{fine-accepted}
 use Rattle.put.specs.Text.{countText}
 use Rattle.meaning.proofs.FieldBack.{count-text}
@@ -25,7 +25,7 @@ use Rattle.listing.specs.Read.{accepted}
 use Rattle.meaning.specs.Figures.{TaskFigures, Figures, pairFor, taskOf, taskFor, tableOf}
 use Rattle.writing.specs.Write.{useText, pairText, taskText, textOf}
 use Rattle.meaning.specs.Back.{clearedTask, cleared, TextFits, ReadsBack, ClearedSame, Rewrites, SameText}
-use Rattle.meaning.proofs.PairRows.{row-at, row-eq}
+use Rattle.basics.proofs.RowLaws.{row-at, row-eq}
 use Rattle.meaning.proofs.TableLaws.{table}
 use Rattle.meaning.proofs.Meaning.{correct, complete, passes-check}
 use Rattle.meaning.proofs.TextFigures.{text-states}

@@ -19,7 +19,7 @@ use Rattle.table.specs.Empty.{unusedPair}
 use Rattle.table.specs.At.{noTask, totalOf}
 use Rattle.table.specs.Accepted.{GoodPair, GoodTask, Accepted}
 use Rattle.meaning.specs.Figures.{UseFigures, TaskFigures, Figures, GoodUses, GoodTaskFigures, GoodTasks, GoodFigures, pairFor, taskOf, taskFor, tableOf}
-use Rattle.meaning.proofs.PairRows.{row-at}
+use Rattle.basics.proofs.RowLaws.{row-at}
 
 good-pair : {C last sum : ℕ} {us : List UseFigures} (k : ℕ) → GoodUses C last sum us → (pairFor us k ≡ unusedPair) ⊎ GoodPair (pairFor us k)
 good-pair k GoodUses.no-use = inl refl

@@ -1,4 +1,4 @@
--- Rows by their places, and the pairs of a task, stored use by use.
+-- The pairs of a task, stored use by use.
 -- Assumes nothing.
 use Prim.Native.Nat.{ℕ, zero, suc, _+_, _-_, _<_}
 use mathlib.Core.Path.{_≡_, refl, sym, ap, _∙_}
@@ -14,35 +14,9 @@ use Rattle.basics.specs.Choice.{pick}
 use Rattle.table.specs.declared.Pair.{Pair}
 use Rattle.table.specs.Limits.{maxResources}
 use Rattle.table.specs.Empty.{unusedPair}
-use Rattle.meaning.specs.Figures.{UseFigures, GoodUses, rowTo, pairFor}
-
--- ---- a row by its places
-
-module _ {A : Type 0} where
-  row-length : (n : ℕ) (g : ℕ → A) → length (rowTo n g) ≡ n
-  unfolding rowTo
-  row-length zero g = refl
-  row-length (suc n) g = omega (arith, length-append (rowTo n g) (g n ∷ []), row-length n g)
-
-  pub row-at : (n k : ℕ) (g : ℕ → A) (d : A) → k < n → getD (rowTo n g) k d ≡ g k
-  unfolding rowTo
-  row-at zero k g d h = absurd (not-suc-le-zero h)
-  row-at (suc n) k g d h = go (ℕ-discrete k n) (λ l. row-at n k g d l)
-    where
-      go : Dec (k ≡ n) → (k < n → getD (rowTo n g) k d ≡ g k) → getD (rowTo n g ++ (g n ∷ [])) k d ≡ g k
-      go (yes e) ih = rw e (getD-at (rowTo n g) (g n) [] d n (row-length n g))
-      go (no e) ih = List·getD-append (rowTo n g) (g n ∷ []) d k (omega (arith, row-length n g)) ∙ ih (omega arith)
-
-  pub row-is : (n : ℕ) (g : ℕ → A) (d : A) (l : List A) → length l ≡ n → ((k : ℕ) → k < n → getD l k d ≡ g k) → l ≡ rowTo n g
-  row-is n g d l e each =
-      ext-getD d l (rowTo n g) (e ∙ sym (row-length n g)) (λ k h. each k (omega arith) ∙ sym (row-at n k g d (omega arith)))
-
-  pub row-eq : (n : ℕ) (g h : ℕ → A) → ((k : ℕ) → k < n → g k ≡ h k) → rowTo n g ≡ rowTo n h
-  unfolding rowTo
-  row-eq zero g h each = refl
-  row-eq (suc n) g h each = rw (row-eq n g h (λ k l. each k (omega arith)), each n (le-refl (suc n)))
-
--- ---- the pairs of a task, stored use by use
+use Rattle.basics.specs.Over.{rowTo}
+use Rattle.basics.proofs.RowLaws.{row-is}
+use Rattle.meaning.specs.Figures.{UseFigures, GoodUses, pairFor}
 
 abbrev pub putPairs : List Pair → List UseFigures → List Pair
 putPairs ps [] = ps

@@ -16,8 +16,10 @@ use Rattle.table.specs.Empty.{emptyTask}
 use Rattle.table.specs.At.{noTask}
 use Rattle.line.specs.declared.Said.the-variants.{Task as TaskLine, Use}
 use Rattle.listing.specs.Read.{newTask, withPair, tableAfter}
-use Rattle.meaning.specs.Figures.{UseFigures, TaskFigures, GoodTaskFigures, GoodTasks, rowTo, taskOf, taskFor, tableOf}
-use Rattle.meaning.proofs.PairRows.{row-is, putPairs, pairs-stored}
+use Rattle.basics.specs.Over.{rowTo}
+use Rattle.meaning.specs.Figures.{UseFigures, TaskFigures, GoodTaskFigures, GoodTasks, taskOf, taskFor, tableOf}
+use Rattle.basics.proofs.RowLaws.{row-is}
+use Rattle.meaning.proofs.PairRows.{putPairs, pairs-stored}
 
 -- ---- the tasks, stored one after another
 

@@ -5,6 +5,7 @@ use mathlib.Core.List.{List}
 use lib.ListN.{length}
 use lib.Dec.{ltb}
 use Rattle.basics.specs.Choice.{pick}
+use Rattle.basics.specs.Over.{rowTo}
 use Rattle.table.specs.declared.Task.{Task}
 use Rattle.table.specs.declared.Table.{Table}
 use Rattle.table.specs.declared.Checked.the-variants.{Fine}
@@ -14,7 +15,6 @@ use Rattle.table.specs.At.{taskAt, pairOf, Same}
 use Rattle.table.specs.Rules.{tableFault}
 use Rattle.listing.specs.Read.{accepted, readListing}
 use Rattle.writing.specs.Write.{textOf}
-use Rattle.meaning.specs.Figures.{rowTo}
 
 -- a table with zeros past the nth task
 unfoldable pub clearedTask : Task → Task

@@ -6,6 +6,7 @@ use mathlib.Core.List.{List, [], _∷_, _++_}
 use lib.ListN.{length}
 use lib.Dec.{eqb}
 use Rattle.basics.specs.Choice.{pick}
+use Rattle.basics.specs.Over.{rowTo}
 use Rattle.basics.specs.Text.{lineOf}
 use Rattle.table.specs.declared.Pair.{Pair}
 use Rattle.table.specs.declared.Task.{Task}
@@ -75,11 +76,6 @@ pub record GoodFigures (f : Figures) : Type 0 where
   pub tasks : GoodTasks (f .tasks)
 
 -- ---- the table that holds them, and zeros
-
--- the row g 0, g 1, .., g (n − 1)
-unfoldable pub rowTo : {A : Type 0} → ℕ → (ℕ → A) → List A
-rowTo zero g = []
-rowTo (suc n) g = rowTo n g ++ (g n ∷ [])
 
 -- the pair with resource k + 1
 abbrev pub pairFor : List UseFigures → ℕ → Pair

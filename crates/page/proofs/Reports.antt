@@ -1,9 +1,14 @@
--- The report on an accepted listing is the rows of its table: the analysis has nothing against a table that was read.
+-- The page row by row; and the report on an accepted listing is the page of its table: the analysis has nothing against a table that was read.
 -- Assumes nothing.
-use mathlib.Core.Path.{_≡_, ap, _∙_}
-use mathlib.Core.List.{List}
-use Prim.Native.Nat.{ℕ}
+use mathlib.Core.Path.{_≡_, sym, ap, _∙_}
+use mathlib.Core.List.{List, _++_, append-assoc}
+use Prim.Native.Nat.{ℕ, _+_, _*_, _≤_, _<_}
+use native.Mathlib.Omega.{arith}
+use lib.ListN.{length, length-append}
 use borrow.Author.Tests.{le-leb}
+use Rattle.basics.specs.Over.{joinTo}
+use Rattle.basics.specs.Text.{bytes}
+use Rattle.basics.proofs.JoinLaws.{join-none, join-more, join-eq, join-bound}
 use Rattle.table.specs.declared.Table.{Table}
 use Rattle.table.specs.Limits.{maxTasks}
 use Rattle.table.specs.Faults.{_then_}
@@ -12,11 +17,28 @@ use Rattle.listing.specs.declared.Reading.{Reading}
 use Rattle.listing.specs.Read.{accepted, readListing}
 use Rattle.meaning.proofs.Meaning.{passes-check}
 use Rattle.analysis.specs.Answers.{analysisFault}
-use Rattle.page.specs.Report.{orRefusal, rowsText, reportText}
+use Rattle.page.specs.Report.{orRefusal, pageText, taskRow, reportText}
 
-pub report-accepted : (s : List ℕ) (t : Table) → readListing s ≡ accepted t → reportText s ≡ rowsText t (t .n)
+-- no row, and one more
+pub page-none : (row : ℕ → List ℕ) → pageText 0 row ≡ bytes "task verdict bound_us\n"
+unfolding pageText
+page-none row = rw join-none
+
+pub page-more : (n : ℕ) (row : ℕ → List ℕ) → pageText (n + 1) row ≡ pageText n row ++ row n
+unfolding pageText
+page-more n row = rw join-more (sym (append-assoc (bytes "task verdict bound_us\n") (joinTo n row) (row n)))
+
+pub page-eq : (n : ℕ) (row other : ℕ → List ℕ) → ((i : ℕ) → i < n → row i ≡ other i) → pageText n row ≡ pageText n other
+unfolding pageText
+page-eq n row other e = rw (join-eq n row other e)
+
+pub page-most : (n b : ℕ) (row : ℕ → List ℕ) → ((i : ℕ) → i < n → length (row i) ≤ b) → length (pageText n row) ≤ 22 + n * b
+unfolding pageText
+page-most n b row h = omega (arith, length-append (bytes "task verdict bound_us\n") (joinTo n row), join-bound n b row h)
+
+pub report-accepted : (s : List ℕ) (t : Table) → readListing s ≡ accepted t → reportText s ≡ pageText (t .n) (taskRow t)
 unfolding reportText analysisFault
 report-accepted s t e =
     let f = passes-check s t e in
-    ap (λ (r : Reading). orRefusal (r .answer then analysisFault (r .table) maxTasks) (rowsText (r .table) (r .table .n))) e
+    ap (λ (r : Reading). orRefusal (r .answer then analysisFault (r .table) maxTasks) (pageText (r .table .n) (taskRow (r .table)))) e
     ∙ rw (f, le-leb (t .n) maxTasks (fine-accepted t f .tasks-most))

@@ -1,6 +1,7 @@
 -- The text that the report program prints for a listing: document 01, "The report program".
-use Prim.Native.Nat.{ℕ, zero, suc}
-use mathlib.Core.List.{List, [], _∷_, _++_}
+use Prim.Native.Nat.{ℕ, suc, _+_, _*_}
+use mathlib.Core.List.{List, _++_}
+use Rattle.basics.specs.Over.{joinTo}
 use Rattle.basics.specs.Text.{bytes}
 use Rattle.table.specs.declared.Refusal.{Refusal}
 use Rattle.table.specs.declared.Table.{Table}
@@ -29,10 +30,17 @@ verdictText Misses = bytes " misses -"
 unfoldable pub rowText : ℕ → Verdict → List ℕ
 rowText number v = countText number ++ (verdictText v ++ bytes "\n")
 
--- "Else a header", and the rows of the first n tasks
-unfoldable pub rowsText : Table → ℕ → List ℕ
-rowsText t zero = bytes "task verdict bound_us\n"
-rowsText t (suc n) = rowsText t n ++ rowText (suc n) (verdictIn t (level n))
+-- "Else a header", then n rows
+unfoldable pub pageText : ℕ → (ℕ → List ℕ) → List ℕ
+pageText n row = bytes "task verdict bound_us\n" ++ joinTo n row
+
+-- the most bytes that a page has: a header of 22, and rows of at most 28 each
+abbrev pub maxPage : ℕ
+maxPage = 22 + maxTasks * 28
+
+-- the row of the task at slot i
+abbrev pub taskRow : Table → ℕ → List ℕ
+taskRow t i = rowText (suc i) (verdictIn t (level i))
 
 abbrev pub orRefusal : Checked → List ℕ → List ℕ
 orRefusal Fine text = text
@@ -43,4 +51,4 @@ unfoldable pub reportText : List ℕ → List ℕ
 reportText s =
     let r = readListing s in
     let t = r .table in
-    orRefusal (r .answer then analysisFault t maxTasks) (rowsText t (t .n))
+    orRefusal (r .answer then analysisFault t maxTasks) (pageText (t .n) (taskRow t))

@@ -217,7 +217,7 @@ fn main() {
     let t = table_of(&space);
     let argument = word(&space, 1);
     match word(&space, 0) {
-        1 => say_checked(table::check(t)),
+        1 => say_checked(checking::check(t)),
         2 => bound(t, argument),
         3 => analyse(t, argument),
         4 => write(t, argument),

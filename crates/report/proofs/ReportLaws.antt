@@ -1,16 +1,14 @@
 -- The laws of the report's text.
---     count-most, verdict-most, row-most, records-most    how long the parts are
---     records-more                             one row more
+--     count-most, verdict-most, row-most, record-most, records-most    how long the parts are
 --     records-rows                             the text from the row of records is the text by the verdicts
 --     table-few                                a table that nothing is said against has at most 32 tasks
 --     report-unread, report-unjudged, report-rows         the report, by the two answers
 -- Assumes nothing.
-use Prim.Native.Nat.{ℕ, zero, suc, _+_, _-_, _*_, _≤_}
-use mathlib.Core.Path.{_≡_, refl, sym, _∙_}
-use mathlib.Core.List.{List, _++_}
+use Prim.Native.Nat.{ℕ, _+_, _*_, _≤_}
+use mathlib.Core.Path.{_≡_, sym, _∙_}
+use mathlib.Core.List.{List}
 use native.Mathlib.Omega.{arith}
-use native.Mathlib.Numerals.{add-one}
-use lib.ListN.{length, getD, length-append}
+use lib.ListN.{length, length-append}
 use Rattle.table.specs.declared.Refusal.{Refusal}
 use Rattle.table.specs.declared.Table.{Table}
 use Rattle.table.specs.declared.Checked.{Checked}
@@ -26,10 +24,11 @@ use Rattle.theory.specs.declared.Verdict.the-variants.{Meets, Misses}
 use Rattle.listing.specs.declared.Reading.{Reading}
 use Rattle.listing.specs.Read.{readListing}
 use Rattle.analysis.specs.declared.Record.{Record}
-use Rattle.analysis.specs.Answers.{analysisFault, written, recordOf, analysed}
-use Rattle.analysis.proofs.WrittenLaws.{row-record}
-use Rattle.page.specs.Report.{refusalText, verdictText, rowText, rowsText, reportText}
-use Rattle.report.specs.Rows.{noRecord, recordsText}
+use Rattle.analysis.specs.Answers.{analysisFault, recordCount, recordOf, analysed}
+use Rattle.analysis.proofs.RowLaws.{row-record}
+use Rattle.page.specs.Report.{refusalText, verdictText, rowText, pageText, taskRow, reportText}
+use Rattle.page.proofs.Reports.{page-eq, page-most}
+use Rattle.report.specs.Rows.{noRecord, recordRow}
 
 -- ---- how long the parts are
 
@@ -45,27 +44,21 @@ pub row-most : (n : ℕ) (v : Verdict) → length (rowText n v) ≤ 28
 unfolding rowText
 row-most n v = simp length-append (omega (arith, count-most n, verdict-most v))
 
-pub records-most : (row : List Record) (n : ℕ) → length (recordsText row n) ≤ 22 + 28 * n
-unfolding recordsText
-records-most row zero = omega arith
-records-most row (suc n) =
-    let r = getD row n noRecord in
-    simp length-append (omega (arith, records-most row n, row-most (r .task .0) (r .verdict)))
+pub record-most : (row : List Record) (i : ℕ) → length (recordRow row i) ≤ 28
+record-most row i = row-most _ _
 
-pub records-more : (row : List Record) (n : ℕ) → recordsText row (n + 1) ≡ recordsText row n ++ rowText (getD row n noRecord .task .0) (getD row n noRecord .verdict)
-unfolding recordsText
-records-more row n = rw add-one
+pub records-most : (row : List Record) (n : ℕ) → length (pageText n (recordRow row)) ≤ 22 + n * 28
+records-most row n = page-most n 28 (recordRow row) (λ i h. record-most row i)
 
 -- ---- from the records to the verdicts
 
-pub records-rows : (t : Table) (row : List Record) (n : ℕ) → n ≤ written t (length row) → recordsText (analysed t row) n ≡ rowsText t n
-unfolding recordsText rowsText recordOf
-records-rows t row zero h = refl
-records-rows t row (suc n) h = rw (records-rows t row n (omega arith), row-record t row n noRecord h)
+pub records-rows : (t : Table) (row : List Record) (n : ℕ) → n ≤ recordCount t (length row) → pageText n (recordRow (analysed t row)) ≡ pageText n (taskRow t)
+unfolding recordOf
+records-rows t row n h = page-eq n _ _ (λ i l. rw (row-record t row i noRecord (omega arith)))
 
 -- ---- the report, by the reading and by what is said against its table
 
-pub table-few : (t : Table) {x : Checked} → x ≡ analysisFault t maxTasks → x ≡ Fine → t .n ≤ 32
+pub table-few : (t : Table) {x : Checked} → x ≡ analysisFault t maxTasks → x ≡ Fine → t .n ≤ maxTasks
 unfolding analysisFault
 table-few t e g = fine-accepted t (then-fine (tableFault t) _ (sym e ∙ g) .0) .tasks-most
 
@@ -79,8 +72,8 @@ module _ (s : List ℕ) {r : Reading} (e : r ≡ readListing s) where
     unfolding reportText
     report-unjudged h = rw (← e, g, ← d, h)
 
-    pub report-rows : x ≡ Fine → (row row₁ : List Record) → length row ≡ 32 → row₁ ≡ analysed (r .table) row → reportText s ≡ recordsText row₁ (r .table .n)
-    unfolding reportText written
+    pub report-rows : x ≡ Fine → (row row₁ : List Record) → length row ≡ maxTasks → row₁ ≡ analysed (r .table) row → reportText s ≡ pageText (r .table .n) (recordRow row₁)
+    unfolding reportText recordCount
     report-rows h row row₁ l k =
-        let w : written (r .table) (length row) ≡ r .table .n = rw (l, ← d, h) in
+        let w : recordCount (r .table) (length row) ≡ r .table .n = rw (l, ← d, h) in
         rw (← e, g, ← d, h, k) (sym (records-rows (r .table) row (r .table .n) (omega (arith, w))))

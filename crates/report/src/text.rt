@@ -4,8 +4,9 @@ ghost use mathlib.Core.List.{_++_};
 ghost use Prim.Native.Nat.{_≤_};
 ghost use lib.ListN.{length, drop};
 ghost use Rattle.put.specs.Text.{countText};
-ghost use Rattle.page.specs.Report.{refusalText, verdictText, rowText, reportText};
-ghost use Rattle.report.specs.Rows.{recordsText};
+ghost use Rattle.table.specs.Limits.{maxTasks};
+ghost use Rattle.page.specs.Report.{maxPage, refusalText, verdictText, rowText, pageText, reportText};
+ghost use Rattle.report.specs.Rows.{recordRow};
 use analysis::Analysis;
 use analysis::Record;
 use table::Checked;
@@ -14,8 +15,8 @@ use table::Refusal;
 use table::Table;
 use theory::Verdict;
 
-// No report is longer: a header of 22 bytes, and 32 rows of at most 28.
-pub(crate) const MOST: usize = 1024;
+// No report is longer: a header of 22 bytes, and for each task a row of at most 28.
+pub(crate) const MOST: usize = 22 + Table::MAX_TASKS * 28;
 
 // s at the start of out.
 fn put(out: &mut [u8], s: &[u8]) -> usize
@@ -69,8 +70,8 @@ fn put_row(out: &mut [u8], number: u32, v: Verdict) -> usize
 
 // The header, and a row for each of the first n records.
 fn put_rows(out: &mut [u8], a: Analysis, n: usize) -> usize
-    requires { ⌜ (1024 ≤ length (now out)) × (n ≤ 32) ⌝ }
-    ensures { λ r. ⌜ (r ≡ length (recordsText (a .rows) n)) × (now (out .exit) ≡ recordsText (a .rows) n ++ drop r (now (out .entry))) ⌝ }
+    requires { ⌜ (maxPage ≤ length (now out)) × (n ≤ maxTasks) ⌝ }
+    ensures { λ r. ⌜ (r ≡ length (pageText n (recordRow (a .rows)))) × (now (out .exit) ≡ pageText n (recordRow (a .rows)) ++ drop r (now (out .entry))) ⌝ }
 {
     let mut at = put(out, b"task verdict bound_us\n");
     let mut i: usize = 0;
@@ -85,7 +86,7 @@ fn put_rows(out: &mut [u8], a: Analysis, n: usize) -> usize
 
 // The report on a listing.
 pub(crate) fn report(listing: &[u8], out: &mut [u8]) -> usize
-    requires { ⌜ 1024 ≤ length (now out) ⌝ }
+    requires { ⌜ maxPage ≤ length (now out) ⌝ }
     ensures { λ r. ⌜ (r ≡ length (reportText (now (listing .entry)))) × (now (out .exit) ≡ reportText (now (listing .entry)) ++ drop r (now (out .entry))) ⌝ }
 {
     let r = listing::read(listing);

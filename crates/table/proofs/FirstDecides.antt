@@ -1,71 +1,113 @@
--- A refusal is given exactly when its rule is the first that fails.
+-- A refusal is given, with its number and place, exactly when its rule is the first that fails; and no two refusals have one number.
 -- Assumes nothing.
-use Prim.Native.Nat.{ℕ, zero, suc, _<_}
-use mathlib.Core.Path.{_≡_, refl}
+use Prim.Native.Nat.{ℕ, zero, suc, pred, _<_}
+use mathlib.Core.Path.{_≡_, refl, sym, ap, _∙_}
 use mathlib.Core.Bool.{Bool, true, false}
+use mathlib.Core.List.{List, [], _∷_}
 use mathlib.Core.Logic.{_⊎_, inl, inr}
 use native.Mathlib.Nat.{le-refl}
 use native.Mathlib.Decide.{decLt}
 use native.Mathlib.Omega.{arith}
 use borrow.Author.Tests.{le-leb, lt-leb}
 use lib.Dec.{leb}
+use lib.ListN.{getD}
 use Rattle.basics.specs.Choice.{within}
+use Rattle.basics.specs.Exactly.{_exactly-if_}
 use Rattle.basics.proofs.ChoiceLaws.{within-low, within-high, within-in}
-use Rattle.table.specs.declared.Refusal.{Refusal}
 use Rattle.table.specs.declared.Fault.{Fault}
-use Rattle.table.specs.declared.Fault.the-variants.{UnknownTask}
+use Rattle.table.specs.declared.Fault.the-variants.{TooLong, BadForm, BadField, OutOfRange, BadTimes, NotRising, BadTotals, TooManyTasks, NoTask, UnknownTask, TooShort}
 use Rattle.table.specs.declared.Checked.{Checked}
 use Rattle.table.specs.declared.Checked.the-variants.{Fine, Refused}
-use Rattle.table.specs.Faults.{_then_, unless, firstFault}
-use Rattle.table.proofs.FirstLaws.{each-fine}
+use Rattle.table.specs.Faults.{numberOf, Refuses, _then_, unless, firstFault}
+use Rattle.table.proofs.FirstLaws.{first-at, first-fine, each-fine}
 
-abbrev at : Fault → ℕ → Checked
-at fault place = Refused (record { fault = fault; place = place })
+-- ---- numbers
 
-pub rule-decides : (test : Bool) (fault : Fault) (place : ℕ) → (unless test fault place ≡ at fault place → test ≡ false) × (test ≡ false → unless test fault place ≡ at fault place)
-rule-decides true fault place = (λ e. let z : _≡_ {A = ℕ} 0 1 = cc in absurd (omega arith), λ e. let z : _≡_ {A = ℕ} 0 1 = cc in absurd (omega arith))
-rule-decides false fault place = (λ e. refl, λ e. refl)
+faults : List Fault
+faults =
+    TooLong ∷ BadForm ∷ BadField ∷ OutOfRange ∷ BadTimes ∷ NotRising ∷ BadTotals ∷ TooManyTasks ∷ NoTask ∷ UnknownTask ∷ TooShort ∷ []
 
-pub two-decide : (a b : Checked) (r : Refusal) → ((a then b) ≡ Refused r → (a ≡ Refused r) ⊎ ((a ≡ Fine) × (b ≡ Refused r))) × ((a ≡ Refused r) ⊎ ((a ≡ Fine) × (b ≡ Refused r)) → (a then b) ≡ Refused r)
-two-decide Fine b r = (λ e. inr (refl, e), back)
+abbrev faultOf : ℕ → Fault
+faultOf k = getD faults (pred k) TooLong
+
+number-back : (f : Fault) → faultOf (numberOf f) ≡ f
+unfolding faults
+number-back TooLong = refl
+number-back BadForm = refl
+number-back BadField = refl
+number-back OutOfRange = refl
+number-back BadTimes = refl
+number-back NotRising = refl
+number-back BadTotals = refl
+number-back TooManyTasks = refl
+number-back NoTask = refl
+number-back UnknownTask = refl
+number-back TooShort = refl
+
+pub one-number : (a b : Fault) → numberOf a ≡ numberOf b → a ≡ b
+one-number a b e = sym (number-back a) ∙ ap faultOf e ∙ number-back b
+
+-- ---- one rule, two rules, and the rules of n things
+
+-- a check that is fine refuses nothing
+not-refused : {A : Type 0} {c : Checked} {k at : ℕ} → c ≡ Fine → Refuses c k at → A
+not-refused e (r, f, t) = let z : _≡_ {A = ℕ} 0 1 = cc in absurd (omega arith)
+
+pub rule-decides : (test : Bool) (fault : Fault) (place : ℕ) → Refuses (unless test fault place) (numberOf fault) place exactly-if (test ≡ false)
+rule-decides true fault place = (not-refused refl, λ e. let z : _≡_ {A = ℕ} 0 1 = cc in absurd (omega arith))
+rule-decides false fault place = (λ x. refl, λ e. (_, refl, record { number = refl; place = refl }))
+
+pub two-decide : (a b : Checked) (k at : ℕ) → Refuses (a then b) k at exactly-if (Refuses a k at ⊎ ((a ≡ Fine) × Refuses b k at))
+two-decide Fine b k at = (λ x. inr (refl, x), back)
   where
-    back : (Fine ≡ Refused r) ⊎ ((Fine ≡ Fine) × (b ≡ Refused r)) → b ≡ Refused r
-    back (inl e) = cc
-    back (inr e) = e .1
-two-decide (Refused s) b r = (λ e. inl e, back)
+    back : Refuses Fine k at ⊎ ((Fine ≡ Fine) × Refuses b k at) → Refuses b k at
+    back (inl x) = not-refused refl x
+    back (inr x) = x .1
+two-decide (Refused s) b k at = (λ x. inl x, back)
   where
-    back : (Refused s ≡ Refused r) ⊎ ((Refused s ≡ Fine) × (b ≡ Refused r)) → Refused s ≡ Refused r
-    back (inl e) = e
-    back (inr e) = cc
+    back : Refuses (Refused s) k at ⊎ ((Refused s ≡ Fine) × Refuses b k at) → Refuses (Refused s) k at
+    back (inl x) = x
+    back (inr x) = let z : _≡_ {A = ℕ} 0 1 = cc in absurd (omega arith)
 
-abbrev pub First : ℕ → (ℕ → Checked) → Refusal → Type 0
-First n f r = (k : ℕ) × (k < n) × (f k ≡ Refused r) × ((j : ℕ) → j < k → f j ≡ Fine)
+-- the thing at i is refused, and those before it are not
+abbrev First : ℕ → (ℕ → Checked) → ℕ → ℕ → Type 0
+First n f k at = (i : ℕ) × (i < n) × Refuses (f i) k at × ((j : ℕ) → j < i → f j ≡ Fine)
 
-pub first-of : (n : ℕ) (f : ℕ → Checked) (r : Refusal) → firstFault n f ≡ Refused r → First n f r
+first-of : (n : ℕ) (f : ℕ → Checked) (k at : ℕ) → Refuses (firstFault n f) k at → First n f k at
 unfolding firstFault
-first-of zero f r e = let z : _≡_ {A = ℕ} 0 1 = cc in absurd (omega arith)
-first-of (suc n) f r e = go (two-decide (firstFault n f) (f n) r .0 e) (first-of n f r)
+first-of zero f k at x = not-refused refl x
+first-of (suc n) f k at x = go (two-decide (firstFault n f) (f n) k at .0 x) (first-of n f k at)
   where
-    go : (firstFault n f ≡ Refused r) ⊎ ((firstFault n f ≡ Fine) × (f n ≡ Refused r)) → (firstFault n f ≡ Refused r → First n f r) → First (suc n) f r
-    go (inl g) ih = let x = ih g in (x .0, omega (arith, x .1), x .2, x .3)
-    go (inr g) ih = (n, le-refl (suc n), g .1, each-fine n f (g .0))
+    go : Refuses (firstFault n f) k at ⊎ ((firstFault n f ≡ Fine) × Refuses (f n) k at) → (Refuses (firstFault n f) k at → First n f k at)
+        → First (suc n) f k at
+    go (inl y) ih = let z = ih y in (z .0, omega (arith, z .1), z .2, z .3)
+    go (inr y) ih = (n, le-refl (suc n), y .1, each-fine n f (y .0))
 
--- a bound that is asked for after the table's own rules
-pub last-rule : (x y : ℕ) (fault : Fault) → (unless (leb x y) fault 0 ≡ at fault 0 → y < x) × (y < x → unless (leb x y) fault 0 ≡ at fault 0)
-last-rule x y fault = (λ e. go (decLt y x) e, λ h. rw (lt-leb x y h))
+pub many-decide : (n : ℕ) (f : ℕ → Checked) (k at : ℕ) → Refuses (firstFault n f) k at exactly-if First n f k at
+many-decide n f k at =
+    (first-of n f k at, λ x. let y = x .2 in (y .0, first-at n (x .0) f (y .0) (x .1) (first-fine (x .0) f (x .3)) (y .1), y .2))
+
+-- ---- 10 and 11, which are asked for after the table's own rules
+
+module _ {P : Type 0} (test : Bool) (fault : Fault) where
+  pub rule-by : (test ≡ false) exactly-if P → Refuses (unless test fault 0) (numberOf fault) 0 exactly-if P
+  rule-by e = let r = rule-decides test fault 0 in (λ x. e .0 (r .0 x), λ p. r .1 (e .1 p))
+
+pub above-fails : (x y : ℕ) → (leb x y ≡ false) exactly-if (y < x)
+above-fails x y = (λ e. go (decLt y x) e, lt-leb x y)
   where
-    go : Dec (y < x) → unless (leb x y) fault 0 ≡ at fault 0 → y < x
+    go : Dec (y < x) → leb x y ≡ false → y < x
     go (yes h) e = h
     go (no h) e = let z : _≡_ {A = ℕ} 0 1 = cc (le-leb x y (omega arith)) in absurd (omega arith)
 
-pub task-rule : (n i : ℕ) → (unless (within 1 n i) UnknownTask 0 ≡ at UnknownTask 0 → (i ≡ 0) ⊎ (n < i)) × ((i ≡ 0) ⊎ (n < i) → unless (within 1 n i) UnknownTask 0 ≡ at UnknownTask 0)
-task-rule n i = (λ e. go (decLt i 1) (decLt n i) e, back)
+pub within-fails : (n i : ℕ) → (within 1 n i ≡ false) exactly-if ((i ≡ 0) ⊎ (n < i))
+within-fails n i = (λ e. go (decLt i 1) (decLt n i) e, back)
   where
-    go : Dec (i < 1) → Dec (n < i) → unless (within 1 n i) UnknownTask 0 ≡ at UnknownTask 0 → (i ≡ 0) ⊎ (n < i)
+    go : Dec (i < 1) → Dec (n < i) → within 1 n i ≡ false → (i ≡ 0) ⊎ (n < i)
     go (yes h) d e = inl (omega arith)
     go (no h) (yes k) e = inr k
     go (no h) (no k) e = let z : _≡_ {A = ℕ} 0 1 = cc (within-in 1 n i (omega arith) (omega arith)) in absurd (omega arith)
 
-    back : (i ≡ 0) ⊎ (n < i) → unless (within 1 n i) UnknownTask 0 ≡ at UnknownTask 0
-    back (inl e) = rw (within-low 1 n i (omega arith))
-    back (inr h) = rw (within-high 1 n i h)
+    back : (i ≡ 0) ⊎ (n < i) → within 1 n i ≡ false
+    back (inl e) = within-low 1 n i (omega arith)
+    back (inr h) = within-high 1 n i h

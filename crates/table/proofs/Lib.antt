@@ -2,7 +2,6 @@
 --   Chain          one rule after another
 --   FirstLaws      the first fault of many
 --   FirstDecides   a refusal is given exactly when its rule is the first that fails
---   Product        a product of two numbers of the table fits
 --   RuleLaws       what the rules for a task's times and for a pair say, as bounds
 --   Acceptance     a table is accepted exactly if nothing is said against it
 --   Sameness       tables that are the same are checked alike
@@ -11,7 +10,6 @@
 pub mod Chain
 pub mod FirstLaws
 pub mod FirstDecides
-pub mod Product
 pub mod RuleLaws
 pub mod Acceptance
 pub mod Sameness

@@ -17,7 +17,7 @@ use Rattle.table.specs.Limits.{maxTime, maxCount}
 use Rattle.table.specs.Empty.{unusedPair}
 use Rattle.table.specs.Faults.{_then_, unless}
 use Rattle.table.specs.Rules.{isTime, timesInRange, timesInOrder, timesFault, isUnused, usedInRange, pairInRange, totalsFit, pairFault}
-use Rattle.table.specs.Accepted.{GoodTimes, GoodPair, PairBounds}
+use Rattle.table.specs.Accepted.{GoodTimes, GoodPair}
 use Rattle.table.proofs.FirstLaws.{then-fine}
 
 pub unless-fine : (b : Bool) (fault : Fault) (place : ℕ) → unless b fault place ≡ Fine → b ≡ true
@@ -121,7 +121,13 @@ pair-fine place p sum C (inl e) h = rw (e, unused-totals sum C h)
 pair-fine place p sum C (inr g) h =
     rw (ne-eqb (p .requests) 0 (λ z. omega arith), used-range p g, used-totals p sum C g h)
 
--- in use or not, a pair holds these bounds
+-- what a pair holds, in use or not
+pub record PairBounds (p : Pair) : Type 0 where
+  pub requests-most : p .requests ≤ maxCount
+  pub longest-total : p .longest ≤ p .total
+  pub total-product : p .total ≤ p .requests * p .longest
+  pub total-most : p .total ≤ maxTime
+
 pub pair-bounds : (p : Pair) → (p ≡ unusedPair) ⊎ GoodPair p → PairBounds p
 pair-bounds p (inl e) =
     rw e

@@ -26,13 +26,6 @@ pub record GoodPair (p : Pair) : Type 0 where
   pub total-product : p .total ≤ p .requests * p .longest
   pub total-most : p .total ≤ maxTime
 
--- what a pair holds, in use or not
-pub record PairBounds (p : Pair) : Type 0 where
-  pub requests-most : p .requests ≤ maxCount
-  pub longest-total : p .longest ≤ p .total
-  pub total-product : p .total ≤ p .requests * p .longest
-  pub total-most : p .total ≤ maxTime
-
 pub record GoodTask (x : Task) : Type 0 where
   pub times : GoodTimes (x .period) (x .run) (x .deadline)
   pub pair : (k : ℕ) → k < maxResources → (pairOf x k ≡ unusedPair) ⊎ GoodPair (pairOf x k)

@@ -1,8 +1,10 @@
 -- Document 01, "Refusals by number": the number of each refusal, and how the first fault decides.
 use Prim.Native.Nat.{ℕ, zero, suc}
+use mathlib.Core.Path.{_≡_}
 use mathlib.Core.Bool.{Bool, true, false}
 use Rattle.table.specs.declared.Fault.{Fault}
 use Rattle.table.specs.declared.Fault.the-variants.{TooLong, BadForm, BadField, OutOfRange, BadTimes, NotRising, BadTotals, TooManyTasks, NoTask, UnknownTask, TooShort}
+use Rattle.table.specs.declared.Refusal.{Refusal}
 use Rattle.table.specs.declared.Checked.{Checked}
 use Rattle.table.specs.declared.Checked.the-variants.{Fine, Refused}
 
@@ -29,6 +31,15 @@ numberOf NoTask = 9
 numberOf UnknownTask = 10
 -- output, or row of verdicts, too short
 numberOf TooShort = 11
+
+-- a refusal told by the paper's number and its place
+pub record Told (r : Refusal) (k at : ℕ) : Type 0 where
+  pub number : numberOf (r .fault) ≡ k
+  pub place : r .place ≡ at
+
+-- a check that refuses with the number k, at a place
+abbrev pub Refuses : Checked → ℕ → ℕ → Type 0
+Refuses c k at = (r : Refusal) × (c ≡ Refused r) × Told r k at
 
 infixr 20 _then_
 -- the first fault decides

@@ -19,7 +19,7 @@ pub enum Written {
 pub fn write(t: Table, out: &mut [u8]) -> Written
     ensures { λ r. ⌜ (r ≡ writeAnswer t (length (now (out .entry)))) × (now (out .exit) ≡ written t (now (out .entry))) ⌝ }
 {
-    if let Checked::Refused(r) = table::check(t) {
+    if let Checked::Refused(r) = checking::check(t) {
         return Written::NotWritten(r);
     }
     if out.len() < text::table_len(t) {

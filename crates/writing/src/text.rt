@@ -24,7 +24,7 @@ fn put(out: &mut [u8], at: usize, s: &[u8]) -> usize
 }
 
 // A space and a count.
-fn put_count(out: &mut [u8], at: usize, n: u32) -> usize
+fn spaced_count(out: &mut [u8], at: usize, n: u32) -> usize
     requires { ⌜ at + length (countText n) < length (now out) ⌝ }
     ensures { λ r. ⌜ (r ≡ at + length (32 ∷ countText n)) × (now (out .exit) ≡ take at (now (out .entry)) ++ ((32 ∷ countText n) ++ drop r (now (out .entry)))) ⌝ }
 {
@@ -34,7 +34,7 @@ fn put_count(out: &mut [u8], at: usize, n: u32) -> usize
 }
 
 // A space and a time.
-fn put_time(out: &mut [u8], at: usize, us: u32) -> usize
+fn spaced_time(out: &mut [u8], at: usize, us: u32) -> usize
     requires { ⌜ at + length (timeText us) < length (now out) ⌝ }
     ensures { λ r. ⌜ (r ≡ at + length (32 ∷ timeText us)) × (now (out .exit) ≡ take at (now (out .entry)) ++ ((32 ∷ timeText us) ++ drop r (now (out .entry)))) ⌝ }
 {
@@ -60,10 +60,10 @@ fn put_use(out: &mut [u8], k: Resource, p: Pair) -> usize
     ensures { λ r. ⌜ (r ≡ length (useText (k .0) p)) × (now (out .exit) ≡ useText (k .0) p ++ drop r (now (out .entry))) ⌝ }
 {
     let a = put(out, 0, b"use");
-    let b = put_count(out, a, k.0);
-    let c = put_count(out, b, p.requests);
-    let d = put_time(out, c, p.longest);
-    let e = put_time(out, d, p.total);
+    let b = spaced_count(out, a, k.0);
+    let c = spaced_count(out, b, p.requests);
+    let d = spaced_time(out, c, p.longest);
+    let e = spaced_time(out, d, p.total);
     put(out, e, b"\n")
 }
 
@@ -109,9 +109,9 @@ fn put_line(out: &mut [u8], x: Task) -> usize
     ensures { λ r. ⌜ (r ≡ length (timesText x)) × (now (out .exit) ≡ timesText x ++ drop r (now (out .entry))) ⌝ }
 {
     let a = put(out, 0, b"task");
-    let b = put_time(out, a, x.period);
-    let c = put_time(out, b, x.run);
-    let d = put_time(out, c, x.deadline);
+    let b = spaced_time(out, a, x.period);
+    let c = spaced_time(out, b, x.run);
+    let d = spaced_time(out, c, x.deadline);
     put(out, d, b"\n")
 }
 
@@ -167,7 +167,7 @@ pub(crate) fn put_table(out: &mut [u8], t: Table) -> usize
 {
     let n = t.n;
     let a = put(out, 0, b"cpus");
-    let b = put_count(out, a, t.cpus);
+    let b = spaced_count(out, a, t.cpus);
     let mut at = put(out, b, b"\n");
     let mut i: usize = 0;
     while i < n {

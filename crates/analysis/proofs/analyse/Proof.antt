@@ -63,9 +63,10 @@ use Rattle.table.specs.declared.Checked.{Checked}
 use Rattle.table.specs.declared.Table.{Table}
 use Rattle.table.specs.declared.Checked.the-variants.{Fine}
 use Rattle.table.specs.Rules.{tableFault}
-use Rattle.analysis.specs.Answers.{analysisFault, written, recordOf, records, analysed}
-use Rattle.analysis.proofs.RowLaws.{row-length, row-next, row-start, row-last}
-use Rattle.analysis.proofs.WrittenLaws.{written-room, written-most, written-asks}
+use Rattle.basics.specs.Over.{rowTo}
+use Rattle.basics.proofs.RowLaws.{over-length, over-more, over-none}
+use Rattle.analysis.specs.Answers.{analysisFault, recordCount, recordOf, analysed}
+use Rattle.analysis.proofs.RowLaws.{count-room, count-most, count-asks, row-last}
 use Rattle.analysis.proofs.Record as T
 use Rattle.analysis.proofs.Record.Laws as T′
 use Rattle.table.proofs.Table as B
@@ -115,8 +116,8 @@ module _ {M : Type 1} (𝓤 : URA M) (H : Heap 𝓤) (A : Atoms 𝓤) (mem : Mem
   RecordAt = tripleOf 𝓤 H A record-at.signature (record-at.spec 𝓤 H A mem run)
 
   -- of each callee's `ensured`, the clause alone: none has a last value
-  todo-of : (t : Table) (i r : ℕ) → ent 𝓤 (ensured 𝓤 H A todo.ended (todo.clauses 𝓤 H A mem run) tt (t, (i, tt)) tt r) (fact 𝓤 (r ≡ written t i))
-  todo-of t i r = exE 𝓤 _ (λ ws. snd∗ 𝓤 (sem 𝓤 H A (lasts todo.ended tt (t, (i, tt)) ws)) (fact 𝓤 (r ≡ written t i)))
+  todo-of : (t : Table) (i r : ℕ) → ent 𝓤 (ensured 𝓤 H A todo.ended (todo.clauses 𝓤 H A mem run) tt (t, (i, tt)) tt r) (fact 𝓤 (r ≡ recordCount t i))
+  todo-of t i r = exE 𝓤 _ (λ ws. snd∗ 𝓤 (sem 𝓤 H A (lasts todo.ended tt (t, (i, tt)) ws)) (fact 𝓤 (r ≡ recordCount t i)))
 
   judge-of : (t : Table) (i : ℕ) (r : Checked) → ent 𝓤 (ensured 𝓤 H A judge.ended (judge.clauses 𝓤 H A mem run) tt (t, (i, tt)) tt r) (fact 𝓤 (r ≡ analysisFault t i))
   judge-of t i r = exE 𝓤 _ (λ ws. snd∗ 𝓤 (sem 𝓤 H A (lasts judge.ended tt (t, (i, tt)) ws)) (fact 𝓤 (r ≡ analysisFault t i)))
@@ -142,20 +143,20 @@ module _ {M : Type 1} (𝓤 : URA M) (H : Heap 𝓤) (A : Atoms 𝓤) (W : Given
   vals = (table-val t ∷ [], (s ∷ [], tt))
 
   abbrev N : ℕ
-  N = written t (length ys)
+  N = recordCount t (length ys)
 
   N-room : N ≤ length ys
-  N-room = written-room t (length ys)
+  N-room = count-room t (length ys)
 
   N-most : N ≤ 32
-  N-most = written-most t (length ys)
+  N-most = count-most t (length ys)
 
   -- the row with its first i records written
   abbrev zs : ℕ → List Record
-  zs i = records t i ++ past i ys
+  zs i = rowTo i (recordOf t) ++ past i ys
 
   zs-length : (i : ℕ) → i ≤ length ys → length (zs i) ≡ length ys
-  zs-length i l = row-length t i ys l
+  zs-length i l = over-length (recordOf t) i ys l
 
   -- what `analyse` ensures, at the answer ans and the last list l
   abbrev Right : Checked → List Record → Type 0
@@ -261,7 +262,7 @@ module _ {M : Type 1} (𝓤 : URA M) (H : Heap 𝓤) (A : Atoms 𝓤) (W : Given
         assigns ! (bin ! (load ! (from ! (stop !)) (look ! 12 refl)) (load ! (from ! (stop !)) (look ! 14 refl)) tt) (from ! (stop !)) (init ! 10 refl (tt, tt)) $
         rewrite ! 10 (λ (y : Bool). ‵ (fat fullShare tyBool l₆ 0 (vbool y))) e refl $ stays ! (load ! (from ! (stop !)) (look ! 10 refl)) $
         -- `record_at`
-        use0 W (raw (RecordAt 𝓤 H A mem run .pre (to-record (i .0)))) (goes-record (i .0) i-fits (written-asks t (length ys) (i .0) less)) $
+        use0 W (raw (RecordAt 𝓤 H A mem run .pre (to-record (i .0)))) (goes-record (i .0) i-fits (count-asks t (length ys) (i .0) less)) $
         calls-at ! fm (RecordAt 𝓤 H A mem run) known-record (to-record (i .0)) (and-then ! (load ! (from ! (stop !)) (look ! 21 refl)) (and-then ! (load ! (from ! (stop !)) (look ! 13 refl)) (no-more !))) (λ w.
         use1 W (later (some (λ (r : Record). (‵ ftrue ⊛ ‵ (T.the-row .own r (w ∷ []))) ⊛ raw (ensured 𝓤 H A record-at.ended (record-at.clauses 𝓤 H A mem run) tt (t, (i .0, tt)) tt r)))) (id⊢ 𝓤 _) $ await ! tt $ pick ! (λ r.
         split ! $ move ! (1 ∷ []) $ use1 W (raw (fact 𝓤 (r ≡ recordOf t (i .0)))) (record-of 𝓤 H A mem run t (i .0) r) $ heard ! (r ≡ recordOf t (i .0)) (λ is-record.
@@ -279,7 +280,7 @@ module _ {M : Type 1} (𝓤 : URA M) (H : Heap 𝓤) (A : Atoms 𝓤) (W : Given
         move ! (1 ∷ 0 ∷ []) $ elem-put ! T.the-row fullShare (zs (i .0)) (i .0) (recordOf t (i .0)) (w ∷ []) b o within $
         assigns-last ! (bin ! (load ! (from ! (stop !)) (look ! 12 refl)) (lit ! tt) (record { fits = next-fits })) (from ! (stop !)) (store ! 12 refl (tt, record { fits = next-fits })) $
         forget ! 4 refl $ forget ! 6 refl $ forget ! 8 refl $ forget ! 10 refl $
-        rewrite ! 0 (λ (l : List Record). ‵ (row T.the-row fullShare l b o)) (row-next t (i .0) ys (omega (arith, less, N-room))) refl $
+        rewrite ! 0 (λ (l : List Record). ‵ (row T.the-row fullShare l b o)) (over-more (recordOf t) (i .0) ys (omega (arith, less, N-room))) refl $
         again ! Nearer At i (i .0 + 1, add-one-le less) (add-one-dec N (i .0) less))))))
       where
         less : i .0 < N
@@ -335,7 +336,7 @@ module _ {M : Type 1} (𝓤 : URA M) (H : Heap 𝓤) (A : Atoms 𝓤) (W : Given
         land ! (from ! (stop !)) (init ! 13 refl (uint-lawful 𝓤 H A W w64 .typed r (w ∷ []) is .0)) $
         rewrite ! 13 (λ (v : Val). ‵ (fat fullShare word l₄ 0 v)) (ap only (is .0) ∙ ap (vint w64) is-todo) refl $
         assigns ! (of-opd ! (lit ! tt)) (from ! (stop !)) (init ! 11 refl (tt, record { fits = lit< tt })) $ opens-slice ! tt T.the-row ys b o $
-        rewrite ! 0 (λ (l : List Record). ‵ (row T.the-row fullShare l b o)) (row-start t ys) refl $
+        rewrite ! 0 (λ (l : List Record). ‵ (row T.the-row fullShare l b o)) (over-none (recordOf t) ys) refl $
         first ! $ blocks ! $ loops ! 𝓣 Nearer Nearer-wf At turns (0, zero-le)))))
 
   walk : (𝓣 : Tables 𝓤 H) → FmC 𝓤 H (W .laws) (𝓣 .C) → Triple 𝓤 (𝓣 .C #analysis·todo) (Todo 𝓤 H A mem run) → Triple 𝓤 (𝓣 .C #analysis·judge) (Judge 𝓤 H A mem run) → Triple 𝓤 (𝓣 .C #analysis·record-at) (RecordAt 𝓤 H A mem run)

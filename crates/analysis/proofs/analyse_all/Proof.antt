@@ -5,17 +5,18 @@ use mathlib.Core.List.{List, _++_}
 use native.Mathlib.Omega.{arith}
 use lib.ListN.{length, drop, set}
 use borrow.Author.Needs.{needs}
+use Rattle.basics.specs.Over.{rowTo}
+use Rattle.basics.proofs.RowLaws.{over-none, over-more}
 use Rattle.table.specs.declared.Checked.the-variants.{Fine}
 use Rattle.table.specs.Limits.{maxTasks}
 use Rattle.analysis.specs.declared.Record.{Record}
-use Rattle.analysis.specs.Answers.{analysisFault, records}
-use Rattle.analysis.proofs.RowLaws.{row-next, row-start}
-use Rattle.analysis.proofs.WrittenLaws.{fits, row-fine, row-refused}
+use Rattle.analysis.specs.Answers.{analysisFault, recordOf}
+use Rattle.analysis.proofs.RowLaws.{fits, row-fine, row-refused}
 use Rattle.analysis.proofs.analyse_all.Statement.{statement}
 use Rattle.analysis.proofs.analyse_all.Tie as tie
 
 abbrev Inv-loop : tie.InvT-loop
-Inv-loop t answer filled₀ n k₀ filled k = (k ≤ n) × (filled ≡ records t k ++ drop k filled₀)
+Inv-loop t answer filled₀ n k₀ filled k = (k ≤ n) × (filled ≡ rowTo k (recordOf t) ++ drop k filled₀)
 
 abbrev μ-loop : tie.MeasureT-loop
 μ-loop t answer filled₀ n k₀ filled k = n - k
@@ -41,7 +42,7 @@ returns c =
     (j .judge .ensures, row-refused _ _ (sym (answered j) ∙ c .enum-told2 .given .1))
 
 loop-holds : tie.Need-loop-holds Inv-loop μ-loop
-loop-holds c = (omega arith, row-start _ _)
+loop-holds c = (omega arith, over-none _ _)
 
 record-at-requires : tie.Need-record-at-requires Inv-loop μ-loop
 record-at-requires c κs = (fits _ _ (fine (c .before .before)) .0, c .loop-test .taken)
@@ -57,7 +58,7 @@ loop-again c =
     let l = c .before .before in
     let s = l .before .before .before .before in
     let k = l .loop .k in
-    (omega arith, (λ j. set (l .loop .inv .1 j) k (c .record-at .ensures j)) ∙ row-next (s .args .t) k (s .args .rows) (omega (arith, few (l .before), long s)))
+    (omega arith, (λ j. set (l .loop .inv .1 j) k (c .record-at .ensures j)) ∙ over-more (recordOf (s .args .t)) k (s .args .rows) (omega (arith, few (l .before), long s)))
 
 returns-2 : tie.Need-returns-2 Inv-loop μ-loop
 returns-2 c =
@@ -66,7 +67,7 @@ returns-2 c =
     let t = s .args .t in
     let all : l .loop .k ≡ t .n = omega arith in (
       l .before .before .before .judge .ensures,
-      l .loop .inv .1 ∙ ap (λ (m : ℕ). records t m ++ drop m (s .args .rows)) all ∙ row-fine t (s .args .rows) (fine (l .before)),
+      l .loop .inv .1 ∙ ap (λ (m : ℕ). rowTo m (recordOf t) ++ drop m (s .args .rows)) all ∙ row-fine t (s .args .rows) (fine (l .before)),
     )
 
 pub analyse-all-spec : {M : Type 1} → statement M

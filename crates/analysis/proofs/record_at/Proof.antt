@@ -1,4 +1,4 @@
--- `analysis::record_at` meets its contract: the demand over the shares is the table's, so the verdict is too. Assumes nothing.
+-- `analysis::record_at` meets its contract: the shares are sound, and the demand over them is the table's, so the verdict is too. Assumes nothing.
 use Prim.Native.Nat.{ℕ}
 use mathlib.Core.Path.{_≡_, ap, _∙_}
 use native.Mathlib.Numerals.{add-one}
@@ -8,6 +8,9 @@ use Rattle.table.specs.Accepted.{Accepted}
 use Rattle.table.proofs.Acceptance.{fine-accepted}
 use Rattle.theory.specs.View.{level}
 use Rattle.theory.specs.Verdict.{verdictOf}
+use Rattle.rounds.specs.declared.Outcome.the-variants.{Of}
+use Rattle.rounds.specs.Outcome.{outcomeOf}
+use Rattle.rounds.proofs.SoundLaws.{sound-test}
 use Rattle.analysis.specs.Tables.{viewOf, verdictIn}
 use Rattle.analysis.specs.Answers.{recordOf}
 use Rattle.analysis.proofs.Reduce.{shares-demand}
@@ -23,27 +26,38 @@ mul-a c = omega (arith, accepted c .tasks-most)
 element-copy-out-a : tie.Need-element-copy-out-a
 element-copy-out-a c = omega (arith, accepted c .tasks-most)
 
-verdict-of-requires : tie.Need-verdict-of-requires
-verdict-of-requires c κs =
-    let b = c .before .before in
-    let g = accepted b .task (b .args .i) (b .pre .1) .times in
-    let r = c .shares-of .ensures in
-    (r .sound, omega (arith, r .are .start), omega arith)
-
--- the verdict over the shares is the table's
-verdict : (c : tie.After-verdict-of) → let b = c .before .before .before in c .verdict-of .result ≡ verdictIn (b .args .t1) (level (b .args .i))
-unfolding verdictIn
-verdict c =
+-- the outcome over the shares is the table's verdict
+outcome : (c : tie.After-verdict-of) → let b = c .before .before .before in c .verdict-of .result ≡ Of (verdictIn (b .args .t1) (level (b .args .i)))
+unfolding verdictIn outcomeOf
+outcome c =
     let b = c .before .before .before in
     let v = viewOf (b .args .t1) in
     let i = b .args .i in
-    c .verdict-of .ensures ∙ ap (λ (f : ℕ → ℕ). verdictOf f (v .D (level i))) (λ j t. shares-demand v i _ (c .before .shares-of .ensures .are) t j)
+    let r = c .before .shares-of .ensures in
+    c .verdict-of .ensures ∙ rw (sound-test _ _ (r .sound)) (ap (λ (f : ℕ → ℕ). Of (verdictOf f (v .D (level i)))) (λ j t. shares-demand v i _ (r .are) t j))
 
+-- they are sound, so another outcome does not come up
 returns : tie.Need-returns
+returns c = let z : _≡_ {A = ℕ} 0 1 = cc (outcome (c .before .before)) in absurd (omega arith)
+
+returns-2 : tie.Need-returns-2
 unfolding recordOf
-returns c = rw (add-one, verdict c)
+returns-2 c =
+    let b = c .before .before .before .before .before .before in
+    let e : c .before .verdict .given .0 .0 ≡ verdictIn (b .args .t1) (level (b .args .i)) = cc (outcome (c .before .before .before)) in
+    rw (add-one, e)
 
 pub record-at-spec : {M : Type 1} → statement M
 record-at-spec =
     tie.close
-    (tie.spec mul-a element-copy-out-a (λ c κs. search needs) (λ c. search needs) (λ c. search needs) verdict-of-requires returns)
+    (tie.spec
+    mul-a
+    element-copy-out-a
+    (λ c. search needs)
+    (λ c. omega (arith, accepted (c .before) .tasks-most))
+    (λ c κs. search needs)
+    (λ c κs. search needs)
+    (λ c. search needs)
+    (λ c. search needs)
+    returns
+    returns-2)

@@ -1,16 +1,16 @@
 -- `analysis::todo` meets its contract. What `judge` says decides between none and all. Assumes nothing.
 use mathlib.Core.Path.{_∙_, sym}
-use Rattle.analysis.specs.Answers.{written}
+use Rattle.analysis.specs.Answers.{recordCount}
 use borrow.Author.Needs.{needs}
 use Rattle.analysis.proofs.todo.Statement.{statement}
 use Rattle.analysis.proofs.todo.Tie as tie
 
 returns : tie.Need-returns
-unfolding written
+unfolding recordCount
 returns c = rw (sym (c .before .before .judge .ensures) ∙ c .enum-told2 .given .1)
 
 returns-2 : tie.Need-returns-2
-unfolding written
+unfolding recordCount
 returns-2 c = rw (sym (c .before .before .judge .ensures) ∙ c .enum-told .given .1)
 
 pub todo-spec : {M : Type 1} → statement M

@@ -50,7 +50,7 @@ use borrow.Rule.Array.Share.{room-take}
 use Rattle.table.specs.declared.Checked.{Checked}
 use Rattle.table.specs.declared.Table.{Table}
 use Rattle.analysis.specs.declared.Record.{Record}
-use Rattle.analysis.specs.Answers.{Filled}
+use Rattle.analysis.specs.Answers.{FillsRow}
 use Rattle.probe.specs.declared.Lent.{Lent}
 use Rattle.table.proofs.Table as B
 use Rattle.table.proofs.Table.Laws as B′
@@ -192,7 +192,7 @@ module _ {M : Type 1} (𝓤 : URA M) (H : Heap 𝓤) (A : Atoms 𝓤) (W : Given
         -- [what `analyse` asks; the lender's part; the others; _8; …; _7; …; _6; …; _5; …; what frees _4; _3; …; _2; …; _1; …; room for _0; …]
         calls-at ! fm (Analyse 𝓤 H A mem run) known (to-analyse α γ) (and-then ! (load ! (from ! (stop !)) (look ! 16 refl)) (and-then ! (load ! (from ! (stop !)) (look ! 5 refl)) (no-more !))) (λ w.
         use1 W (later (some (λ (r : Checked). ((‵ (flft (α ∷ []) fullShare) ⊛ ‵ ftrue) ⊛ ‵ (E.the-row .own r (w ∷ []))) ⊛ raw (ensured 𝓤 H A analyse.ended (analyse.clauses 𝓤 H A mem run) (α ∷ [], tt) (t, (x γ, tt)) tt r)))) (id⊢ 𝓤 _) $ await ! tt $ pick ! (λ ans.
-        split ! $ move ! (1 ∷ []) $ use1 W (some (λ (zs : Unit {0} × (List Record × Unit {0})). ‵ (lasts analyse.ended (α ∷ [], tt) (t, (x γ, tt)) zs) ⊛ raw (fact 𝓤 (Filled t front ans (zs .1 .0))))) (id⊢ 𝓤 _) $ pick ! (λ zs.
+        split ! $ move ! (1 ∷ []) $ use1 W (some (λ (zs : Unit {0} × (List Record × Unit {0})). ‵ (lasts analyse.ended (α ∷ [], tt) (t, (x γ, tt)) zs) ⊛ raw (fact 𝓤 (FillsRow t front ans (zs .1 .0))))) (id⊢ 𝓤 _) $ pick ! (λ zs.
         split ! $ move ! (1 ∷ []) $ drop ! $ fsplit ! $ drop ! $ fsplit ! $ fsplit ! $
         -- [the last list; its length; true; the token and the answer; the lender's part; the others; _8; …]
         move ! (3 ∷ []) $ split ! $ split ! $ move ! (2 ∷ []) $ facts ! E.the-row (Is E.the-row) (shows 𝓤 H A E.the-row) ans (w ∷ []) (λ is.

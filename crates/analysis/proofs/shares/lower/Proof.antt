@@ -11,7 +11,7 @@ returns c =
       period = refl;
       deadline = refl;
       whole = refl;
-      one = c .unless .ensures ∙ ap (pick (c .before .before .args .short) 0) (c .before .split .ensures .marked);
+      one = c .unless-short .ensures ∙ ap (pick (c .before .before .args .short) 0) (c .before .split .ensures .marked);
       two = refl;
     }
 

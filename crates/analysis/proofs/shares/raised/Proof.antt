@@ -5,24 +5,24 @@ use native.Mathlib.Omega.{arith}
 use Prim.Native.Nat.{_-_, max}
 use Rattle.table.specs.At.{pairOf}
 use Rattle.analysis.specs.Pass.{peakAt}
-use Rattle.analysis.proofs.FilledLaws.{Filled, filled-none, filled-more, filled-all}
+use Rattle.analysis.proofs.EachLaws.{EachTo, each-none, each-more, each-all}
 use Rattle.analysis.proofs.shares.raised.Statement.{statement}
 use Rattle.analysis.proofs.shares.raised.Tie as tie
 
 abbrev Inv-loop : tie.InvT-loop
-Inv-loop m b longest₀ k₀ longest k = Filled (λ j x. x ≡ max (peakAt m j) (pairOf b j .longest)) 0 16 longest k
+Inv-loop m b longest₀ k₀ longest k = EachTo (λ j x. x ≡ max (peakAt m j) (pairOf b j .longest)) 0 16 longest k
 
 abbrev μ-loop : tie.MeasureT-loop
 μ-loop m b longest₀ k₀ longest k = 16 - k
 
 loop-holds : tie.Need-loop-holds Inv-loop μ-loop
-loop-holds c = filled-none _ _ _ _ refl
+loop-holds c = each-none _ _ _ _ refl
 
 loop-again : tie.Need-loop-again Inv-loop μ-loop
-loop-again c = filled-more (c .before .before .before .before .loop .inv) (omega arith) _ _ refl (c .most .ensures) _ refl
+loop-again c = each-more (c .before .before .before .before .loop .inv) (omega arith) _ _ refl (c .most .ensures) _ refl
 
 returns : tie.Need-returns Inv-loop μ-loop
-returns c = record { each = filled-all (c .before .loop .inv) (omega arith) }
+returns c = record { each = each-all (c .before .loop .inv) (omega arith) }
 
 pub raised-spec : {M : Type 1} → statement M
 raised-spec =

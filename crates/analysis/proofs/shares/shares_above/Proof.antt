@@ -7,16 +7,16 @@ use Rattle.table.specs.Limits.{maxTasks}
 use Rattle.table.specs.At.{taskAt}
 use Rattle.table.specs.Accepted.{Accepted}
 use Rattle.table.proofs.Acceptance.{fine-accepted}
-use Rattle.analysis.specs.Shares.{noShare}
+use Rattle.rounds.specs.Shares.{noShare}
 use Rattle.analysis.specs.Pass.{UpperIs, CeilingsTo}
-use Rattle.analysis.proofs.FilledLaws.{Filled, filled-none, filled-more}
+use Rattle.analysis.proofs.EachLaws.{EachTo, each-none, each-more}
 use Rattle.analysis.proofs.CeilingLaws.{ceilings-none, ceilings-more}
 use Rattle.analysis.proofs.shares.shares_above.Statement.{statement}
 use Rattle.analysis.proofs.shares.shares_above.Tie as tie
 
 abbrev Inv-loop : tie.InvT-loop
 Inv-loop i mine short t of₀ ceilings₀ l₀ of ceilings l =
-    (i < maxTasks) × (l ≤ i) × Filled (λ j e. UpperIs mine (taskAt t j) short e) noShare maxTasks of l × CeilingsTo t i l ceilings
+    (i < maxTasks) × (l ≤ i) × EachTo (λ j e. UpperIs mine (taskAt t j) short e) noShare maxTasks of l × CeilingsTo t i l ceilings
 
 abbrev μ-loop : tie.MeasureT-loop
 μ-loop i mine short t of₀ ceilings₀ l₀ of ceilings l = i - l
@@ -27,7 +27,7 @@ accepted b = fine-accepted (b .args .t1) (b .pre .0)
 loop-holds : tie.Need-loop-holds Inv-loop μ-loop
 loop-holds c =
     let h : c .args .i < maxTasks = omega (arith, accepted c .tasks-most) in
-    (h, omega arith, filled-none _ _ _ _ refl, ceilings-none (c .args .t1) (c .args .i) h)
+    (h, omega arith, each-none _ _ _ _ refl, ceilings-none (c .args .t1) (c .args .i) h)
 
 upper-requires : tie.Need-upper-requires Inv-loop μ-loop
 upper-requires c κs =
@@ -40,7 +40,7 @@ loop-again c =
     let a = p .before .args in (
       omega arith,
       omega arith,
-      filled-more (p .loop .inv .2) (omega arith) _ _ refl (c .before .upper .ensures) _ refl,
+      each-more (p .loop .inv .2) (omega arith) _ _ refl (c .before .upper .ensures) _ refl,
       ceilings-more (a .t1) (a .i) (p .loop .ceilings) (c .ceilings-with .result) (p .loop .l) (omega arith) (p .loop .inv .3) (c .ceilings-with .ensures),
     )
 

@@ -9,9 +9,9 @@ use Rattle.table.specs.Limits.{maxTasks}
 use Rattle.table.specs.At.{taskAt}
 use Rattle.table.specs.Accepted.{Accepted}
 use Rattle.table.proofs.Acceptance.{fine-accepted}
-use Rattle.analysis.specs.Shares.{noShare, shareIn}
+use Rattle.rounds.specs.Shares.{noShare, shareIn}
 use Rattle.analysis.specs.Pass.{LowerIs, PeaksTo}
-use Rattle.analysis.proofs.FilledLaws.{Filled, filled-more}
+use Rattle.analysis.proofs.EachLaws.{EachTo, each-more}
 use Rattle.analysis.proofs.PeakLaws.{peaks-none, peaks-more}
 use Rattle.analysis.proofs.shares.shares_below.Statement.{statement}
 use Rattle.analysis.proofs.shares.shares_below.Tie as tie
@@ -19,7 +19,7 @@ use Rattle.analysis.proofs.shares.shares_below.Tie as tie
 abbrev Inv-loop : tie.InvT-loop
 Inv-loop i above short t n of₀ peaks₀ j₀ of peaks j =
     (n ≤ maxTasks) × (i < j) × (j ≤ n)
-    × Filled (λ l e. (l ≤ i → e ≡ shareIn of₀ l) × (i < l → LowerIs above (taskAt t l) short e)) noShare maxTasks of j
+    × EachTo (λ l e. (l ≤ i → e ≡ shareIn of₀ l) × (i < l → LowerIs above (taskAt t l) short e)) noShare maxTasks of j
     × PeaksTo t i j peaks
 
 abbrev μ-loop : tie.MeasureT-loop
@@ -57,7 +57,7 @@ loop-again c =
       omega arith,
       omega arith,
       omega arith,
-      filled-more (p .loop .inv .3) (omega arith) _ _ refl (λ h. absurd (omega arith), λ h. c .before .lower .ensures) _ refl,
+      each-more (p .loop .inv .3) (omega arith) _ _ refl (λ h. absurd (omega arith), λ h. c .before .lower .ensures) _ refl,
       peaks-more (a .t1) (a .i) (p .loop .j) (p .loop .peaks) (c .raised .result) (omega arith) (p .loop .inv .4) (c .raised .ensures),
     )
 

@@ -6,6 +6,7 @@ use native.Mathlib.Omega.{arith}
 use Prim.Native.Nat.{_+_, _≤_}
 use Rattle.table.specs.Accepted.{Accepted}
 use Rattle.table.proofs.Acceptance.{fine-accepted}
+use Rattle.rounds.specs.Outcome.{maxBase}
 use Rattle.analysis.proofs.CeilingLaws.{AboveIs, ceilings-all}
 use Rattle.analysis.proofs.PeakLaws.{peaks-small, wait-is}
 use Rattle.analysis.proofs.PassShares.{shares-are}
@@ -51,7 +52,7 @@ waiting-requires c κs =
     (peaks-small t i (t .n) (down .result .peaks) (accepted b) (le-refl _) (down .ensures .peaks), accepted b .task i (b .pre .1))
 
 -- C + DB is small
-small : (c : tie.After-wide) → c .wide .result + c .before .before .waiting .result ≤ 1_000_000_000_000
+small : (c : tie.After-wide) → c .wide .result + c .before .before .waiting .result ≤ maxBase
 small c =
     let w = c .before .before in
     let b = start (w .before) in

@@ -14,8 +14,8 @@ returns c =
       period = refl;
       deadline = refl;
       whole = s .marked;
-      one = c .before .unless .ensures ∙ ap (pick (a .short) 0) (ap₂ _-_ (s .all) (s .marked));
-      two = c .unless2 .ensures ∙ ap (λ (n : ℕ). pick (a .short) 0 (a .b .run - n)) (s .all);
+      one = c .before .unless-short .ensures ∙ ap (pick (a .short) 0) (ap₂ _-_ (s .all) (s .marked));
+      two = c .unless-short2 .ensures ∙ ap (λ (n : ℕ). pick (a .short) 0 (a .b .run - n)) (s .all);
     }
 
 pub upper-spec : {M : Type 1} → statement M

@@ -6,24 +6,24 @@ use native.Mathlib.Omega.{arith}
 use Prim.Native.Nat.{_-_}
 use lib.Dec.{ltb}
 use Rattle.table.specs.At.{pairOf}
-use Rattle.analysis.proofs.FilledLaws.{Filled, filled-none, filled-more, filled-all}
+use Rattle.analysis.proofs.EachLaws.{EachTo, each-none, each-more, each-all}
 use Rattle.analysis.proofs.shares.used_by.Statement.{statement}
 use Rattle.analysis.proofs.shares.used_by.Tie as tie
 
 abbrev Inv-loop : tie.InvT-loop
-Inv-loop a on₀ k₀ on k = Filled (λ j x. x ≡ ltb 0 (pairOf a j .requests)) false 16 on k
+Inv-loop a on₀ k₀ on k = EachTo (λ j x. x ≡ ltb 0 (pairOf a j .requests)) false 16 on k
 
 abbrev μ-loop : tie.MeasureT-loop
 μ-loop a on₀ k₀ on k = 16 - k
 
 loop-holds : tie.Need-loop-holds Inv-loop μ-loop
-loop-holds c = filled-none _ _ _ _ refl
+loop-holds c = each-none _ _ _ _ refl
 
 loop-again : tie.Need-loop-again Inv-loop μ-loop
-loop-again c = filled-more (c .before .before .before .loop .inv) (omega arith) _ _ refl refl _ refl
+loop-again c = each-more (c .before .before .before .loop .inv) (omega arith) _ _ refl refl _ refl
 
 returns : tie.Need-returns Inv-loop μ-loop
-returns c = record { each = filled-all (c .before .loop .inv) (omega arith) }
+returns c = record { each = each-all (c .before .loop .inv) (omega arith) }
 
 pub used-by-spec : {M : Type 1} → statement M
 used-by-spec =

@@ -1,21 +1,21 @@
 -- `report::text::put_rows` meets its contract. The invariant: the output, as it was after the header, is filled with the text of the first i records up to `at`. The measure is what is left of n. Assumes nothing.
-use Prim.Native.Nat.{_-_, _≤_}
+use Prim.Native.Nat.{ℕ, _-_, _≤_}
 use mathlib.Core.Path.{_≡_, ap}
 use native.Mathlib.Omega.{arith}
 use native.Mathlib.Nat.{le-antisymm}
 use borrow.Author.Needs.{needs}
-use lib.ListN.{getD}
 use Rattle.basics.specs.Text.{bytes}
 use Rattle.basics.proofs.FillLaws.{Filled}
-use Rattle.page.specs.Report.{rowText}
-use Rattle.report.specs.Rows.{noRecord, recordsText}
+use Rattle.page.specs.Report.{pageText}
+use Rattle.page.proofs.Reports.{page-none, page-more}
+use Rattle.report.specs.Rows.{recordRow}
 use Rattle.report.proofs.OutputLaws.{filled-text, filled-done, filled-again, filled-over, Upto, upto-of, upto-more, upto-in, upto-room}
-use Rattle.report.proofs.ReportLaws.{row-most, records-most, records-more}
+use Rattle.report.proofs.ReportLaws.{record-most, records-most}
 use Rattle.report.proofs.text.put_rows.Statement.{statement}
 use Rattle.report.proofs.text.put_rows.Tie as tie
 
 abbrev Inv-loop : tie.InvT-loop
-Inv-loop out₀ n a at₀ i₀ out at i = (i ≤ n) × (at₀ ≤ at) × Filled out₀ out (recordsText (a .rows) i) at
+Inv-loop out₀ n a at₀ i₀ out at i = (i ≤ n) × (at₀ ≤ at) × Filled out₀ out (pageText i (recordRow (a .rows))) at
 
 abbrev μ-loop : tie.MeasureT-loop
 μ-loop out₀ n a at₀ i₀ out at i = n - i
@@ -30,12 +30,12 @@ so-far c = upto-of (c .before .loop .inv .2) (omega (arith, records-most (c .bef
 abbrev next : (c : tie.After-put-row Inv-loop μ-loop) → Upto (c .before .before .before .before .before .before .before .put .last .0) 918
 next c =
     let l = c .before .before .before in
-    let r = getD (l .before .before .before .before .before .before .before .before .args .t2 .rows) (l .before .loop .i) noRecord in
-    upto-more (so-far l) (rowText (r .task .0) (r .verdict)) (c .put-row .kept .0) (c .put-row .ensures) (omega (arith, c .before .before .before .before .before .before .before .put .kept .0)) (omega (arith, row-most (r .task .0) (r .verdict)))
+    let rows = l .before .before .before .before .before .before .before .before .args .t2 .rows in
+    let i = l .before .loop .i in
+    upto-more (so-far l) (recordRow rows i) (c .put-row .kept .0) (c .put-row .ensures) (omega (arith, c .before .before .before .before .before .before .before .put .kept .0)) (omega (arith, record-most rows i))
 
 loop-holds : tie.Need-loop-holds Inv-loop μ-loop
-unfolding recordsText
-loop-holds c = (omega arith, omega arith, filled-again (headed (c .before .before)))
+loop-holds c = (omega arith, omega arith, rw page-none (filled-again (headed (c .before .before))))
 
 sub-put-row : tie.Need-sub-put-row Inv-loop μ-loop
 sub-put-row c = upto-in (so-far (c .before)) (omega arith)
@@ -50,7 +50,7 @@ add-at : tie.Need-add-at Inv-loop μ-loop
 add-at c = omega (arith, next (c .before .before) .few)
 
 loop-again : tie.Need-loop-again Inv-loop μ-loop
-loop-again c = (omega arith, omega arith, rw records-more (next (c .before .before) .filled))
+loop-again c = (omega arith, omega arith, rw page-more (next (c .before .before) .filled))
 
 returns : tie.Need-returns Inv-loop μ-loop
 returns c =
@@ -58,7 +58,7 @@ returns c =
     let h = c .before .before .before .before in
     let s = h .before .before .before .before .args in
     let e : l .i ≡ s .n = le-antisymm (l .inv .0) (c .loop-test .left) in
-    filled-done (recordsText (s .t2 .rows) (s .n)) (ap (recordsText (s .t2 .rows)) e) (filled-over (headed h) (l .inv .2) (l .inv .1))
+    filled-done (pageText (s .n) (recordRow (s .t2 .rows))) (ap (λ (n : ℕ). pageText n (recordRow (s .t2 .rows))) e) (filled-over (headed h) (l .inv .2) (l .inv .1))
 
 pub put-rows-spec : {M : Type 1} → statement M
 put-rows-spec =

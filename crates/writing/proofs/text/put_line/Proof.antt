@@ -10,14 +10,14 @@ use borrow.Author.Needs.{needs}
 use Rattle.writing.proofs.text.put_line.Statement.{statement}
 use Rattle.writing.proofs.text.put_line.Tie as tie
 
-put-time-requires : tie.Need-put-time-requires
-put-time-requires c κs = omega (arith, times-length (c .before .before .before .before .before .before .before .args .x))
+spaced-time-requires : tie.Need-spaced-time-requires
+spaced-time-requires c κs = omega (arith, times-length (c .before .before .before .before .before .before .before .args .x))
 
-put-time-requires-2 : tie.Need-put-time-requires-2
-put-time-requires-2 c κs = omega (arith, times-length (c .before .before .before .before .before .before .before .before .before .before .before .args .x))
+spaced-time-requires-2 : tie.Need-spaced-time-requires-2
+spaced-time-requires-2 c κs = omega (arith, times-length (c .before .before .before .before .before .before .before .before .before .before .before .args .x))
 
-put-time-requires-3 : tie.Need-put-time-requires-3
-put-time-requires-3 c κs = omega (arith, times-length (c .before .before .before .before .before .before .before .before .before .before .before .before .before .before .before .args .x))
+spaced-time-requires-3 : tie.Need-spaced-time-requires-3
+spaced-time-requires-3 c κs = omega (arith, times-length (c .before .before .before .before .before .before .before .before .before .before .before .before .before .before .before .args .x))
 
 put-requires-2 : tie.Need-put-requires-2
 put-requires-2 c κs = omega (arith, times-length (c .before .before .before .before .before .before .before .before .before .before .before .before .before .before .before .before .before .before .before .before .args .x))
@@ -31,9 +31,9 @@ returns c =
     let w = t .before .before .before .before in
     let a = w .before .before .before .before .args in
     let f₁ = filled-at (filled-none (a .out .now)) (bytes "task") (w .put .kept .0) (w .put .ensures) in
-    let f₂ = filled-at f₁ (32 ∷ timeText (a .x .period)) (t .put-time .kept .0) (t .put-time .ensures) in
-    let f₃ = filled-at f₂ (32 ∷ timeText (a .x .run)) (r .put-time2 .kept .0) (r .put-time2 .ensures) in
-    let f₄ = filled-at f₃ (32 ∷ timeText (a .x .deadline)) (d .put-time3 .kept .0) (d .put-time3 .ensures) in
+    let f₂ = filled-at f₁ (32 ∷ timeText (a .x .period)) (t .spaced-time .kept .0) (t .spaced-time .ensures) in
+    let f₃ = filled-at f₂ (32 ∷ timeText (a .x .run)) (r .spaced-time2 .kept .0) (r .spaced-time2 .ensures) in
+    let f₄ = filled-at f₃ (32 ∷ timeText (a .x .deadline)) (d .spaced-time3 .kept .0) (d .spaced-time3 .ensures) in
     filled-is (timesText (a .x)) (filled-at f₄ (bytes "\n") (e .put2 .kept .0) (e .put2 .ensures)) (simp append-assoc)
 
 pub put-line-spec : {M : Type 1} → statement M
@@ -42,9 +42,9 @@ put-line-spec =
     (tie.spec
     (λ c. search needs)
     (λ c κs. search needs)
-    put-time-requires
-    put-time-requires-2
-    put-time-requires-3
+    spaced-time-requires
+    spaced-time-requires-2
+    spaced-time-requires-3
     (λ c. search needs)
     put-requires-2
     (λ c. search needs)

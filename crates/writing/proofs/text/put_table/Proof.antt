@@ -42,7 +42,7 @@ filled l =
     let w = m .before .before .before .before in
     let a = w .before .before .before .before .args in
     let f₁ = filled-at (filled-none (a .out .now)) (bytes "cpus") (w .put .kept .0) (w .put .ensures) in
-    let f₂ = filled-at f₁ (32 ∷ countText (a .t2 .cpus)) (m .put-count .kept .0) (m .put-count .ensures) in
+    let f₂ = filled-at f₁ (32 ∷ countText (a .t2 .cpus)) (m .spaced-count .kept .0) (m .spaced-count .ensures) in
     l .loop .inv .1 (a .out .now) (filled-at f₂ (bytes "\n") (e .put2 .kept .0) (e .put2 .ensures))
 
 -- there is room for the next task's lines
@@ -57,8 +57,8 @@ room c =
 put-requires : tie.Need-put-requires Inv-loop μ-loop
 put-requires c κs = omega (arith, first-room (c .before .before .before))
 
-put-count-requires : tie.Need-put-count-requires Inv-loop μ-loop
-put-count-requires c κs = omega (arith, first-room (c .before .before .before .before .before .before .before))
+spaced-count-requires : tie.Need-spaced-count-requires Inv-loop μ-loop
+spaced-count-requires c κs = omega (arith, first-room (c .before .before .before .before .before .before .before))
 
 put-requires-2 : tie.Need-put-requires-2 Inv-loop μ-loop
 put-requires-2 c κs = omega (arith, first-room (c .before .before .before .before .before .before .before .before .before .before .before .before))
@@ -115,7 +115,7 @@ put-table-spec =
     μ-loop
     (λ c. search needs)
     put-requires
-    put-count-requires
+    spaced-count-requires
     (λ c. search needs)
     put-requires-2
     loop-holds

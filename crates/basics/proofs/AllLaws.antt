@@ -1,0 +1,44 @@
+-- The laws of a test that holds at each index below n.
+-- Assumes nothing.
+use Prim.Native.Nat.{ℕ, zero, suc, _+_, _<_}
+use mathlib.Core.Path.{_≡_, refl}
+use mathlib.Core.Bool.{Bool, true, false, _&&_}
+use native.Mathlib.Nat.{not-suc-le-zero}
+use native.Mathlib.Numerals.{add-one}
+use native.Mathlib.Decide.{ℕ-discrete}
+use native.Mathlib.Omega.{arith}
+use Rattle.basics.specs.Over.{allTo}
+use Rattle.basics.proofs.ChoiceLaws.{and-true}
+
+pub all-none : (p : ℕ → Bool) → allTo 0 p ≡ true
+unfolding allTo
+all-none p = refl
+
+pub all-more : (n : ℕ) (p : ℕ → Bool) → allTo n p ≡ true → p n ≡ true → allTo (n + 1) p ≡ true
+unfolding allTo
+all-more n p e f = rw (add-one, e, f)
+
+pub all-at : (n k : ℕ) (p : ℕ → Bool) → allTo n p ≡ true → k < n → p k ≡ true
+unfolding allTo
+all-at zero k p e h = absurd (not-suc-le-zero h)
+all-at (suc n) k p e h =
+    let a = and-true (allTo n p) (p n) e in
+    go (ℕ-discrete k n) (a .1) (λ l. all-at n k p (a .0) l)
+  where
+    go : Dec (k ≡ n) → p n ≡ true → (k < n → p k ≡ true) → p k ≡ true
+    go (yes d) last before = rw d last
+    go (no d) last before = before (omega arith)
+
+-- it does not hold at one of them
+pub all-fails : (n k : ℕ) (p : ℕ → Bool) → k < n → p k ≡ false → allTo n p ≡ false
+all-fails n k p h e = go (allTo n p) refl
+  where
+    go : (b : Bool) → allTo n p ≡ b → b ≡ false
+    go true f = let z = all-at n k p f h in cc
+    go false f = refl
+
+-- it holds at each
+pub all-hold : (n : ℕ) (p : ℕ → Bool) → ((k : ℕ) → k < n → p k ≡ true) → allTo n p ≡ true
+unfolding allTo
+all-hold zero p h = refl
+all-hold (suc n) p h = rw (all-hold n p (λ k l. h k (omega arith)), h n (omega arith))

@@ -1,0 +1,70 @@
+-- The laws of a row, by its places; and of a row whose first places are stored one by one.
+-- Assumes nothing.
+use Prim.Native.Nat.{ℕ, zero, suc, _+_, _≤_, _<_}
+use mathlib.Core.Path.{_≡_, refl, sym, ap, subst, _∙_}
+use mathlib.Core.List.{List, [], _∷_, _++_}
+use native.Mathlib.Omega.{arith}
+use native.Mathlib.Numerals.{add-one}
+use native.Mathlib.Nat.{not-suc-le-zero}
+use native.Mathlib.Decide.{ℕ-discrete}
+use lib.ListN.{length, getD, set, drop, length-append, length-drop, List·getD-append}
+use lib.Seq.{getD-at, ext-getD}
+use Rattle.basics.specs.Over.{joinTo, rowTo}
+use Rattle.basics.proofs.JoinLaws.{join-eq}
+
+module _ {A : Type 0} where
+  pub row-length : (n : ℕ) (g : ℕ → A) → length (rowTo n g) ≡ n
+  unfolding joinTo
+  row-length zero g = refl
+  row-length (suc n) g = omega (arith, length-append (rowTo n g) (g n ∷ []), row-length n g)
+
+  pub row-at : (n k : ℕ) (g : ℕ → A) (d : A) → k < n → getD (rowTo n g) k d ≡ g k
+  unfolding joinTo
+  row-at zero k g d h = absurd (not-suc-le-zero h)
+  row-at (suc n) k g d h = go (ℕ-discrete k n) (λ l. row-at n k g d l)
+    where
+      go : Dec (k ≡ n) → (k < n → getD (rowTo n g) k d ≡ g k) → getD (rowTo n g ++ (g n ∷ [])) k d ≡ g k
+      go (yes e) ih = rw e (getD-at (rowTo n g) (g n) [] d n (row-length n g))
+      go (no e) ih = List·getD-append (rowTo n g) (g n ∷ []) d k (omega (arith, row-length n g)) ∙ ih (omega arith)
+
+  pub row-is : (n : ℕ) (g : ℕ → A) (d : A) (l : List A) → length l ≡ n → ((k : ℕ) → k < n → getD l k d ≡ g k) → l ≡ rowTo n g
+  row-is n g d l e each =
+      ext-getD d l (rowTo n g) (e ∙ sym (row-length n g)) (λ k h. each k (omega arith) ∙ sym (row-at n k g d (omega arith)))
+
+  pub row-eq : (n : ℕ) (g h : ℕ → A) → ((k : ℕ) → k < n → g k ≡ h k) → rowTo n g ≡ rowTo n h
+  row-eq n g h each = join-eq n _ _ (λ k l. ap (λ (x : A). x ∷ []) (each k l))
+
+  -- ---- a row ys whose first i places hold g 0, .., g (i − 1)
+
+  pub over-length : (g : ℕ → A) (i : ℕ) (ys : List A) → i ≤ length ys → length (rowTo i g ++ drop i ys) ≡ length ys
+  over-length g i ys l = length-append (rowTo i g) (drop i ys) ∙ omega (arith, row-length i g, length-drop i ys)
+
+  pub over-none : (g : ℕ → A) (ys : List A) → ys ≡ rowTo 0 g ++ drop 0 ys
+  unfolding joinTo
+  over-none g ys = refl
+
+  -- a list without its first i, and without one more
+  drop-one : (i : ℕ) (ys : List A) → drop 1 (drop i ys) ≡ drop (suc i) ys
+  drop-one zero ys = refl
+  drop-one (suc i) [] = refl
+  drop-one (suc i) (y ∷ ys) = drop-one i ys
+
+  -- a store right after `fs` makes `fs` longer by one
+  set-after : (fs rs : List A) (x : A) → 0 < length rs → set (fs ++ rs) (length fs) x ≡ (fs ++ (x ∷ [])) ++ drop 1 rs
+  set-after [] [] x l = absurd (not-suc-le-zero l)
+  set-after [] (r ∷ rs) x l = refl
+  set-after (f ∷ fs) rs x l = ap {B = List A} (λ (t : List A). f ∷ t) (set-after fs rs x l)
+
+  row-grows : (g : ℕ → A) (i : ℕ) → rowTo (suc i) g ≡ rowTo i g ++ (g i ∷ [])
+  unfolding joinTo
+  row-grows g i = refl
+
+  -- the next one is stored
+  pub over-more : (g : ℕ → A) (i : ℕ) (ys : List A) → i < length ys → set (rowTo i g ++ drop i ys) i (g i) ≡ rowTo (i + 1) g ++ drop (i + 1) ys
+  over-more g i ys l =
+      subst
+      (λ (k : ℕ). set (rowTo i g ++ drop i ys) k (g i) ≡ (rowTo i g ++ (g i ∷ [])) ++ drop 1 (drop i ys))
+      (row-length i g)
+      (set-after (rowTo i g) (drop i ys) (g i) (omega (arith, length-drop i ys)))
+      ∙ (λ j. sym (row-grows g i) j ++ drop-one i ys j)
+      ∙ ap (λ (k : ℕ). rowTo k g ++ drop k ys) (sym (add-one i))

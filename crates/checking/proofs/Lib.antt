@@ -1,0 +1,2 @@
+--   Determined   two answers are equal
+pub mod Determined

@@ -1,0 +1,36 @@
+-- `checking::check` meets its contract: at each `return` the tests that led there say which part of `tableFault` decides. Assumes nothing.
+use borrow.Author.Needs.{needs}
+use borrow.Author.Tests.{le-leb, lt-leb}
+use Rattle.table.specs.Rules.{tableFault}
+use Rattle.basics.proofs.ChoiceLaws.{stops, passes}
+use Rattle.checking.proofs.check.Statement.{statement}
+use Rattle.checking.proofs.check.Tie as tie
+
+returns : tie.Need-returns
+unfolding tableFault
+returns c = simp (lt-leb _ _ (c .if1 .taken))
+
+returns-2 : tie.Need-returns-2
+unfolding tableFault
+returns-2 c = simp (le-leb _ _ (c .before .before .if1 .left), lt-leb _ _ (c .if2 .taken))
+
+returns-3 : tie.Need-returns-3
+unfolding tableFault
+returns-3 c =
+    let b = c .before .before in
+    simp
+    (le-leb _ _ (b .before .before .if1 .left), le-leb _ _ (b .if2 .left), stops (c .before .in-range .ensures) (c .if3 .taken))
+
+returns-4 : tie.Need-returns-4
+unfolding tableFault
+returns-4 c =
+    let a = c .before in
+    let b = a .before .before in
+    simp
+    (le-leb _ _ (b .before .before .if1 .left), le-leb _ _ (b .if2 .left), passes (a .before .in-range .ensures) (a .if3 .left))
+    (c .check-tasks .ensures)
+
+pub check-spec : {M : Type 1} → statement M
+check-spec =
+    tie.close
+    (tie.spec returns returns-2 (λ c κs. search needs) returns-3 (λ c κs. search needs) returns-4)

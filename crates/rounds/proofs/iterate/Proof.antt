@@ -1,0 +1,126 @@
+-- `rounds::iterate` meets its contract. The invariant: t is from 1 to D, and every answer is at least t; in a round, the sums so far. Assumes nothing.
+use Prim.Native.Nat.{_≤_, _-_, _+_}
+use native.Mathlib.Nat.{div-le-self}
+use native.Mathlib.Omega.{arith}
+use borrow.Author.Needs.{needs}
+use Rattle.rounds.proofs.RoundLaws.{Summed, summed-none, summed-more, roundOf, round-is, Sought, sought-start, Round, round-more, round-meets, round-misses}
+use Rattle.rounds.proofs.iterate.Statement.{statement}
+use Rattle.rounds.proofs.iterate.Tie as tie
+
+abbrev Inv-loop2 : tie.InvT-loop2
+Inv-loop2 s deadline w d n m last t whole₀ i₀ whole i = (i ≤ n) × Summed (w .of) t i whole
+
+abbrev μ-loop2 : tie.MeasureT-loop2
+μ-loop2 s deadline w d n m last t whole₀ i₀ whole i = n - i
+
+abbrev Inv-loop3 : tie.InvT-loop3
+Inv-loop3 s deadline w d n m last t whole i part₀ j₀ part j = (j ≤ m) × Summed (d .of) t j part
+
+abbrev μ-loop3 : tie.MeasureT-loop3
+μ-loop3 s deadline w d n m last t whole i part₀ j₀ part j = m - j
+
+abbrev Inv-loop : tie.InvT-loop
+Inv-loop s deadline w d n m last t₀ t = Sought s deadline t
+
+abbrev μ-loop : tie.MeasureT-loop
+μ-loop s deadline w d n m last t₀ t = deadline - t
+
+loop-holds : tie.Need-loop-holds Inv-loop2 μ-loop2 Inv-loop3 μ-loop3 Inv-loop μ-loop
+loop-holds c =
+    let b = c .before .before .before in
+    sought-start (b .pre)
+
+loop2-holds : tie.Need-loop2-holds Inv-loop2 μ-loop2 Inv-loop3 μ-loop3 Inv-loop μ-loop
+loop2-holds c = (search needs, summed-none)
+
+load-requires : tie.Need-load-requires Inv-loop2 μ-loop2 Inv-loop3 μ-loop3 Inv-loop μ-loop
+load-requires c κs =
+    let l = c .before .before in
+    (l .before .before .before .before .wholes-of .ensures .good (l .loop2 .i) (c .before .loop2-test .taken), omega arith)
+
+loop2-again : tie.Need-loop2-again Inv-loop2 μ-loop2 Inv-loop3 μ-loop3 Inv-loop μ-loop
+loop2-again c = (search needs, summed-more (c .before .before .before .loop2 .inv .1) (c .load .ensures))
+
+loop3-holds : tie.Need-loop3-holds Inv-loop2 μ-loop2 Inv-loop3 μ-loop3 Inv-loop μ-loop
+loop3-holds c = (search needs, summed-none)
+
+load-requires-2 : tie.Need-load-requires-2 Inv-loop2 μ-loop2 Inv-loop3 μ-loop3 Inv-loop μ-loop
+load-requires-2 c κs =
+    let l = c .before .before in
+    (l .before .before .before .before .before .divided-of .ensures .good (l .loop3 .j) (c .before .loop3-test .taken), omega arith)
+
+loop3-again : tie.Need-loop3-again Inv-loop2 μ-loop2 Inv-loop3 μ-loop3 Inv-loop μ-loop
+loop3-again c = (search needs, summed-more (c .before .before .before .loop3 .inv .1) (c .load2 .ensures))
+
+-- what the round works out is the demand
+round : (c : tie.After-loop3 Inv-loop2 μ-loop2 Inv-loop3 μ-loop3 Inv-loop μ-loop)
+    → let w = c .before .before .before in
+    let a = w .before .before .before .before .before .args in
+    Round (a .s) (a .deadline) (w .before .loop .t) (roundOf (a .s) (w .loop2 .whole) (c .before .loop3 .part))
+round c =
+    let w = c .before .before .before in
+    let l = w .before in
+    let k = l .before .before in
+    let p = c .before .loop3 in
+    record {
+      sound = k .before .before .pre;
+      sought = l .loop .inv;
+      is = round-is (k .before .wholes-of .ensures) (k .divided-of .ensures) (l .loop .inv .low) (w .loop2 .inv .1) (omega arith) (p .inv .1) (omega arith);
+    }
+
+add-f-3 : tie.Need-add-f-3 Inv-loop2 μ-loop2 Inv-loop3 μ-loop3 Inv-loop μ-loop
+add-f-3 c =
+    let part = c .before .before .before .before .loop3 .part in
+    let cpus = c .before .before .before .before .before .before .before .before .before .before .before .args .s .cpus in
+    omega (arith, div-le-self (part + (cpus - 1)) cpus)
+
+returns : tie.Need-returns Inv-loop2 μ-loop2 Inv-loop3 μ-loop3 Inv-loop μ-loop
+returns c = round-meets (round (c .before .before .before .before .before)) (omega arith)
+
+returns-2 : tie.Need-returns-2 Inv-loop2 μ-loop2 Inv-loop3 μ-loop3 Inv-loop μ-loop
+returns-2 c = round-misses (round (c .before .before .before .before .before .before)) (omega arith)
+
+loop-again : tie.Need-loop-again Inv-loop2 μ-loop2 Inv-loop3 μ-loop3 Inv-loop μ-loop
+loop-again c = round-more (round (c .before .before .before .before .before .before)) (omega arith) (omega arith)
+
+pub iterate-spec : {M : Type 1} → statement M
+iterate-spec =
+    tie.close
+    (tie.spec
+    Inv-loop2
+    μ-loop2
+    Inv-loop3
+    μ-loop3
+    Inv-loop
+    μ-loop
+    (λ c κs. search needs)
+    (λ c κs. search needs)
+    (λ c κs. search needs)
+    loop-holds
+    loop2-holds
+    (λ c. search needs)
+    (λ c. search needs)
+    load-requires
+    (λ c. search needs)
+    (λ c. search needs)
+    (λ c. search needs)
+    loop2-again
+    loop3-holds
+    (λ c. search needs)
+    (λ c. search needs)
+    load-requires-2
+    (λ c. search needs)
+    (λ c. search needs)
+    (λ c. search needs)
+    loop3-again
+    (λ c. search needs)
+    (λ c. search needs)
+    (λ c. search needs)
+    (λ c. search needs)
+    add-f-3
+    (λ c κs. search needs)
+    returns
+    returns-2
+    (λ c. search needs)
+    (λ c. search needs)
+    loop-again)

@@ -1,0 +1,24 @@
+-- Two answers that satisfy a public function's contract are equal.
+-- Assumes nothing.
+use mathlib.Core.Path.{sym, _∙_}
+use Rattle.basics.specs.Determined.{Determined}
+use Rattle.rules.proofs.in_range.Reads as in-range
+use Rattle.rules.proofs.pair.Reads as pair
+use Rattle.rules.proofs.times.Reads as times
+use Rattle.rules.proofs.totals_fit.Reads as totals-fit
+use Rattle.rules.proofs.used_in_range.Reads as used-in-range
+
+pub in-range-determined : Determined (in-range.Learnt tt)
+in-range-determined a x y r s p q = p ∙ sym q
+
+pub times-determined : Determined (times.Learnt tt)
+times-determined a x y r s p q = p ∙ sym q
+
+pub used-in-range-determined : Determined (used-in-range.Learnt tt)
+used-in-range-determined a x y r s p q = p ∙ sym q
+
+pub totals-fit-determined : Determined (totals-fit.Learnt tt)
+totals-fit-determined a x y r s p q = p ∙ sym q
+
+pub pair-determined : Determined (pair.Learnt tt)
+pair-determined a x y r s p q = p ∙ sym q

@@ -1,0 +1,123 @@
+// The rules that a table and a listing are both held to: 4, 5 and 7.
+ghost use mathlib.Core.Path.{_≡_};
+ghost use Rattle.basics.specs.Choice.{within};
+ghost use Rattle.table.specs.Rules.{timesInRange, timesInOrder, timesFault, isUnused, usedInRange, pairInRange, totalsFit, pairFault};
+use table::Checked;
+use table::Fault;
+use table::Pair;
+use table::Refusal;
+use table::Table;
+
+// x is from 1 to most.
+pub fn in_range(x: u32, most: u32) -> bool
+    ensures { λ r. ⌜ r ≡ within 1 most x ⌝ }
+{
+    if x < 1 {
+        return false;
+    }
+    x <= most
+}
+
+fn times_in_range(period: u32, run: u32, deadline: u32) -> bool
+    ensures { λ r. ⌜ r ≡ timesInRange period run deadline ⌝ }
+{
+    if !in_range(period, Table::MAX_TIME) {
+        return false;
+    }
+    if !in_range(run, Table::MAX_TIME) {
+        return false;
+    }
+    in_range(deadline, Table::MAX_TIME)
+}
+
+fn times_in_order(period: u32, run: u32, deadline: u32) -> bool
+    ensures { λ r. ⌜ r ≡ timesInOrder period run deadline ⌝ }
+{
+    if deadline < run {
+        return false;
+    }
+    deadline <= period
+}
+
+// 4, then 5, of a task's times.
+pub fn times(place: u32, period: u32, run: u32, deadline: u32) -> Checked
+    ensures { λ r. ⌜ r ≡ timesFault place period run deadline ⌝ }
+{
+    if !times_in_range(period, run, deadline) {
+        return Checked::Refused(Refusal {
+            fault: Fault::OutOfRange,
+            place,
+        });
+    }
+    if !times_in_order(period, run, deadline) {
+        return Checked::Refused(Refusal {
+            fault: Fault::BadTimes,
+            place,
+        });
+    }
+    Checked::Fine
+}
+
+// Of a pair with no requests: nothing else is asked for either.
+fn is_unused(p: Pair) -> bool
+    ensures { λ r. ⌜ r ≡ isUnused p ⌝ }
+{
+    if p.longest != 0 {
+        return false;
+    }
+    p.total == 0
+}
+
+// 4, of a pair in use.
+pub fn used_in_range(p: Pair) -> bool
+    ensures { λ r. ⌜ r ≡ usedInRange p ⌝ }
+{
+    if !in_range(p.requests, Table::MAX_COUNT) {
+        return false;
+    }
+    if !in_range(p.longest, Table::MAX_TIME) {
+        return false;
+    }
+    in_range(p.total, Table::MAX_TIME)
+}
+
+fn pair_in_range(p: Pair) -> bool
+    ensures { λ r. ⌜ r ≡ pairInRange p ⌝ }
+{
+    if p.requests == 0 {
+        return is_unused(p);
+    }
+    used_in_range(p)
+}
+
+// 7: `sum` is the CT so far, this pair's among them, and `run` the task's C.
+pub fn totals_fit(p: Pair, sum: u64, run: u32) -> bool
+    ensures { λ r. ⌜ r ≡ totalsFit p sum run ⌝ }
+{
+    if p.total < p.longest {
+        return false;
+    }
+    if (p.requests as u64) * (p.longest as u64) < p.total as u64 {
+        return false;
+    }
+    sum <= run as u64
+}
+
+// 4, then 7, of one pair of a task.
+pub fn pair(place: u32, p: Pair, sum: u64, run: u32) -> Checked
+    ensures { λ r. ⌜ r ≡ pairFault place p sum run ⌝ }
+{
+    if !pair_in_range(p) {
+        return Checked::Refused(Refusal {
+            fault: Fault::OutOfRange,
+            place,
+        });
+    }
+    if !totals_fit(p, sum, run) {
+        return Checked::Refused(Refusal {
+            fault: Fault::BadTotals,
+            place,
+        });
+    }
+    Checked::Fine
+}
