@@ -1,12 +1,15 @@
 -- Demand 1 holds.
 -- Assumes nothing.
 use mathlib.Core.Path.{refl, sym}
+use base.Logic.{id⊢}
 use lib.ListN.{length}
-use Rattle.table.specs.declared.Fault.the-variants.{TooShort}
-use Rattle.table.proofs.Determined.{number-determined, empty-determined, check-determined, in-range-determined, times-determined, used-in-range-determined, totals-fit-determined, pair-determined}
-use Rattle.table.proofs.FirstLaws.{first-at, first-fine}
-use Rattle.table.proofs.FirstDecides.{rule-decides, two-decide, first-of, last-rule, task-rule}
+use Rattle.basics.specs.Over.{joinTo}
+use Rattle.table.specs.declared.Fault.the-variants.{UnknownTask, TooShort}
+use Rattle.table.proofs.Determined.{number-determined, empty-determined}
+use Rattle.table.proofs.FirstDecides.{one-number, rule-decides, two-decide, many-decide, rule-by, above-fails, within-fails}
 use Rattle.table.proofs.Acceptance.{fine-accepted, accepted-fine}
+use Rattle.rules.proofs.Determined.{in-range-determined, times-determined, used-in-range-determined, totals-fit-determined, pair-determined}
+use Rattle.checking.proofs.Determined.{check-determined}
 use Rattle.field.proofs.Determined.{time-determined, count-determined, ends-at-determined}
 use Rattle.put.proofs.Determined.{put-time-determined, put-count-determined, put-text-determined, put-length-determined, count-len-determined, time-len-determined}
 use Rattle.put.proofs.PutLaws.{short-is}
@@ -15,18 +18,22 @@ use Rattle.line.proofs.Determined.{line-of-determined}
 use Rattle.listing.proofs.Determined.{read-determined}
 use Rattle.writing.proofs.Determined.{write-determined}
 use Rattle.meaning.proofs.Refused.{listing-empty}
-use Rattle.analysis.specs.Answers.{boundFault, analysisFault, records, analysed, written as recordsWritten}
+use Rattle.meaning.proofs.ListingRefusals.{refused-as-called}
+use Rattle.rounds.proofs.Determined.{verdict-of-determined}
+use Rattle.analysis.specs.Answers.{boundFault, analysisFault, recordCount, analysed}
 use Rattle.analysis.proofs.Determined.{bound-determined, analyse-all-determined, analyse-determined}
 use Rattle.promises.specs.Demand1.{Entries, Determines, Keeps, FirstDecides, Demand1}
 
 entries : Entries
 entries =
     record {
+      number = λ a r x p. p;
       check = λ a r x p. p;
       read = λ κs a r x p. p;
       write-answers = λ κs a r x p. p .0;
       write-leaves = λ κs a r x p. p .1;
       bound = λ a r x p. p;
+      analyse = λ 𝓤 H A mem run κs a r x. id⊢ 𝓤 _;
       analyse-all = λ a r x p. λ j. record { answer = p .0 j; rows = p .1 j };
     }
 
@@ -54,6 +61,7 @@ determines =
       read = read-determined;
       write = write-determined;
       bound = bound-determined;
+      verdict-of = verdict-of-determined;
       analyse-all = analyse-all-determined;
       analyse = analyse-determined;
     }
@@ -61,7 +69,7 @@ determines =
 -- ---- a refusal changes nothing
 
 keeps : Keeps
-unfolding analysed recordsWritten records written
+unfolding analysed recordCount joinTo written
 keeps =
     record {
       row = λ t row r e. rw e;
@@ -76,13 +84,15 @@ first-decides : FirstDecides
 unfolding boundFault analysisFault writeFault
 first-decides =
     record {
+      numbers = one-number;
+      listing = refused-as-called;
       rule = rule-decides;
       two = two-decide;
-      many = λ n f r. (first-of n f r, λ x. first-at n (x .0) f r (x .1) (first-fine (x .0) f (x .3)) (x .2));
+      many = many-decide;
       fine = λ t. (fine-accepted t, accepted-fine t);
-      ten = λ t i e. rw e (task-rule (t .n) (i .0));
-      eleven-row = λ t room e. rw e (last-rule (t .n) room TooShort);
-      eleven-output = λ t room e. rw e (last-rule (length (textOf t)) room TooShort);
+      ten = λ t i e. rw e (rule-by _ UnknownTask (within-fails (t .n) (i .0)));
+      eleven-row = λ t room e. rw e (rule-by _ TooShort (above-fails (t .n) room));
+      eleven-output = λ t room e. rw e (rule-by _ TooShort (above-fails (length (textOf t)) room));
     }
 
 pub demand1 : Demand1

@@ -20,7 +20,7 @@ use Rattle.analysis.specs.Tables.{viewOf, verdictIn}
 use Rattle.analysis.specs.declared.Record.{Record}
 use Rattle.analysis.specs.Answers.{boundOf, analysisFault, recordOf}
 use Rattle.analysis.proofs.ByIterates.{bound-known}
-use Rattle.analysis.proofs.WrittenLaws.{fits, written-fine, row-record, row-past, row-long}
+use Rattle.analysis.proofs.RowLaws.{fits, count-fine, row-record, row-past, row-long}
 use Rattle.meaning.proofs.Meaning.{correct, complete, passes-check}
 use Rattle.meaning.proofs.Back.{text-fits, reads-back, cleared-same, rewrites, same-text}
 use Rattle.promises.specs.Demand2.{demandIn, runIn, deadlineIn, RightVerdict, RightRow, Demand2}
@@ -51,7 +51,7 @@ right-row : (t : Table) (row : List Record) → analysisFault t (length row) ≡
 unfolding recordOf
 right-row t row e =
     let f = fits t (length row) e .0 in
-    let w = written-fine t (length row) e in
+    let w = count-fine t (length row) e in
     record {
       task = λ i h. ap (λ (r : Record). r .task) (row-record t row i _ (rw w h));
       verdict = λ i h. bound-known t i f h ∙ ap (λ (r : Record). Known (r .verdict)) (sym (row-record t row i _ (rw w h)));

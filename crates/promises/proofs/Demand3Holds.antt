@@ -1,26 +1,28 @@
 -- Demand 3 holds, and is not said of nothing.
 -- Assumes nothing.
-use Prim.Native.Nat.{ℕ, zero, suc, _≤_, _<_}
+use Prim.Native.Nat.{ℕ}
 use mathlib.Core.Path.{_≡_, refl, ap, _∙_}
-use native.Mathlib.Nat.{le-refl}
+use mathlib.Core.Bool.{true}
 use native.Mathlib.Omega.{arith}
-use lib.Dec.{ltb, lit<, lit≤}
-use Rattle.basics.specs.Over.{sumTo, maxTo, firstTo}
+use lib.Dec.{T, leb, ltb, lit<}
+use Rattle.basics.specs.Over.{sumTo, maxTo, allTo, firstTo}
 use Rattle.table.specs.declared.Table.{Table}
+use Rattle.table.specs.declared.Checked.the-variants.{Fine}
 use Rattle.table.specs.Faults.{firstFault}
 use Rattle.table.specs.Rules.{timesInRange, timesInOrder, timesFault, isUnused, usedInRange, pairInRange, totalsFit, pairFault, pairsFault, taskFault, tasksFault, tableFault}
-use Rattle.theory.specs.declared.Verdict.the-variants.{Meets, Misses}
+use Rattle.theory.specs.declared.Verdict.the-variants.{Meets}
 use Rattle.theory.specs.Work.{workload, jobs, ceilDiv}
-use Rattle.theory.specs.View.{level, resource, uses, ceiling}
-use Rattle.theory.specs.Demand.{sharedCT, otherCT, allCT, highCT, DB, S, O, F, L, demandWith}
-use Rattle.theory.specs.Harder.{Harder}
+use Rattle.theory.specs.View.{level, ceiling}
+use Rattle.theory.specs.Demand.{sharedCT, otherCT, allCT, highCT, DB, S, O, F, L, demandWith, demandOf}
 use Rattle.theory.proofs.VerdictLaws.{climb}
 use Rattle.theory.proofs.DemandLaws.{harder-keeps}
 use Rattle.analysis.specs.declared.Answer.the-variants.{Known}
 use Rattle.analysis.specs.Tables.{viewOf, verdictIn}
+use Rattle.analysis.specs.Answers.{boundOf}
 use Rattle.analysis.proofs.ByIterates.{fine-runs, bound-known, iterate-meets, iterate-misses}
 use Rattle.promises.specs.Demand3.{MadeHarder, Demand3, caseA, NotEmpty}
 use Rattle.promises.proofs.Demand2Holds.{answered}
+use Rattle.promises.proofs.HarderByTest.{rules, isHarder, harder-by}
 
 pub demand3 : Demand3
 unfolding verdictIn
@@ -31,72 +33,23 @@ demand3 a b m i h u e =
 
 -- ---- case A made harder
 
-module _ (N M c d : ℕ) (more : N ≤ M) (longer : c ≤ d) (used : ltb 0 M ≡ ltb 0 N) where
-  requests : (l k : ℕ) → l < 3 → viewOf (caseA N c) .N (level l) (resource k) ≤ viewOf (caseA M d) .N (level l) (resource k)
-  unfolding caseA
-  requests zero zero h = more
-  requests zero (suc k) h = le-refl _
-  requests (suc zero) k h = le-refl _
-  requests (suc (suc zero)) zero h = le-refl _
-  requests (suc (suc zero)) (suc k) h = le-refl _
-  requests (suc (suc (suc l))) k h = absurd (omega arith)
+made : {a b : Table} → tableFault a ≡ Fine → tableFault b ≡ Fine → isHarder (viewOf a) (viewOf b) ≡ true → MadeHarder a b
+made e f h = record { first = e; second = f; harder = harder-by _ _ h }
 
-  longest : (l k : ℕ) → l < 3 → viewOf (caseA N c) .c (level l) (resource k) ≤ viewOf (caseA M d) .c (level l) (resource k)
-  unfolding caseA
-  longest zero zero h = le-refl _
-  longest zero (suc k) h = le-refl _
-  longest (suc zero) k h = le-refl _
-  longest (suc (suc zero)) zero h = longer
-  longest (suc (suc zero)) (suc k) h = le-refl _
-  longest (suc (suc (suc l))) k h = absurd (omega arith)
-
-  totals : (l k : ℕ) → l < 3 → viewOf (caseA M d) .CT (level l) (resource k) ≡ viewOf (caseA N c) .CT (level l) (resource k)
-  unfolding caseA
-  totals zero zero h = refl
-  totals zero (suc k) h = refl
-  totals (suc zero) k h = refl
-  totals (suc (suc zero)) zero h = refl
-  totals (suc (suc zero)) (suc k) h = refl
-  totals (suc (suc (suc l))) k h = absurd (omega arith)
-
-  pairs : (l k : ℕ) → l < 3 → uses (viewOf (caseA M d)) (level l) (resource k) ≡ uses (viewOf (caseA N c)) (level l) (resource k)
-  unfolding caseA
-  pairs zero zero h = used
-  pairs zero (suc k) h = refl
-  pairs (suc zero) k h = refl
-  pairs (suc (suc zero)) zero h = refl
-  pairs (suc (suc zero)) (suc k) h = refl
-  pairs (suc (suc (suc l))) k h = absurd (omega arith)
-
-  -- T, C and D do not change
-  same : (P : ℕ → Type 0) → P 0 → P 1 → P 2 → (l : ℕ) → l < 3 → P l
-  same P a b e zero h = a
-  same P a b e (suc zero) h = b
-  same P a b e (suc (suc zero)) h = e
-  same P a b e (suc (suc (suc l))) h = absurd (omega arith)
-
-  harder-A : Harder (viewOf (caseA N c)) (viewOf (caseA M d))
-  unfolding caseA
-  harder-A =
-      record {
-        cpus = le-refl 2;
-        n = le-refl 3;
-        T = same (λ l. viewOf (caseA M d) .T (level l) ≤ viewOf (caseA N c) .T (level l)) (le-refl _) (le-refl _) (le-refl _);
-        N = λ l k h r. requests l k h;
-        c = λ l k h r. longest l k h;
-        C = same (λ l. viewOf (caseA M d) .C (level l) ≡ viewOf (caseA N c) .C (level l)) refl refl refl;
-        D = same (λ l. viewOf (caseA M d) .D (level l) ≡ viewOf (caseA N c) .D (level l)) refl refl refl;
-        CT = λ l k h r. totals l k h;
-        pairs = λ l k h r. pairs l k h;
-      }
+-- the bound of the task in slot i is the kth iterate
+meets : (t : Table) (i k : ℕ) {u : ℕ} → tableFault t ≡ Fine → T (ltb i (t .n)) → climb (demandOf (viewOf t) (level i)) k (viewOf t .C (level i)) ≡ u
+    → T (leb 1 u) → T (leb u (viewOf t .D (level i))) → T (leb (demandOf (viewOf t) (level i) u) u) → boundOf t (level i) ≡ Known (Meets u)
+meets t i k e h c x y z = bound-known t i e (lit< h) ∙ ap Known (iterate-meets t i k _ e (lit< h) c x y z)
 
 pub not-empty : NotEmpty
-unfolding caseA sumTo maxTo firstTo firstFault timesInRange timesInOrder timesFault isUnused usedInRange pairInRange totalsFit pairFault pairsFault taskFault tasksFault tableFault workload jobs ceilDiv ceiling sharedCT otherCT allCT highCT DB S O F L demandWith climb
+unfolding caseA allTo rules sumTo maxTo firstTo firstFault timesInRange timesInOrder timesFault isUnused usedInRange pairInRange totalsFit pairFault pairsFault taskFault tasksFault tableFault workload jobs ceilDiv ceiling sharedCT otherCT allCT highCT DB S O F L demandWith climb
 not-empty =
     record {
-      before = bound-known (caseA 1 750) 0 refl (lit< tt) ∙ ap Known (iterate-meets (caseA 1 750) 0 1 3_250 refl (lit< tt) refl tt tt tt);
-      longer = record { first = refl; second = refl; harder = harder-A 1 1 750 1_000 (lit≤ tt) (lit≤ tt) refl };
-      grows = bound-known (caseA 1 1_000) 0 refl (lit< tt) ∙ ap Known (iterate-meets (caseA 1 1_000) 0 1 3_500 refl (lit< tt) refl tt tt tt);
-      oftener = record { first = refl; second = refl; harder = harder-A 1 20 750 750 (lit≤ tt) (lit≤ tt) refl };
-      misses = bound-known (caseA 20 750) 0 refl (lit< tt) ∙ ap Known (iterate-misses (caseA 20 750) 0 1 17_500 refl (lit< tt) refl tt);
+      longer = record { harder = made refl refl refl; before = meets _ 0 1 refl tt refl tt tt tt; after = meets _ 0 1 refl tt refl tt tt tt };
+      oftener = made refl refl refl;
+      misses = bound-known _ 0 refl (lit< tt) ∙ ap Known (iterate-misses _ 0 1 17_500 refl (lit< tt) refl tt);
+      fewer = record { harder = made refl refl refl; before = meets _ 1 0 refl tt refl tt tt tt; after = meets _ 1 6 refl tt refl tt tt tt };
+      fewer-third = record { harder = made refl refl refl; before = meets _ 2 5 refl tt refl tt tt tt; after = meets _ 2 3 refl tt refl tt tt tt };
+      shorter = record { harder = made refl refl refl; before = meets _ 2 3 refl tt refl tt tt tt; after = meets _ 2 4 refl tt refl tt tt tt };
+      added = record { harder = made refl refl refl; before = meets _ 2 5 refl tt refl tt tt tt; after = meets _ 2 3 refl tt refl tt tt tt };
     }

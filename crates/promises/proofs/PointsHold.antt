@@ -5,7 +5,7 @@ use Prim.Native.String.{String}
 use mathlib.Core.Path.{_≡_, refl, _∙_}
 use mathlib.Core.List.{List, _++_}
 use lib.Dec.{lit<}
-use Rattle.basics.specs.Over.{sumTo, maxTo, firstTo}
+use Rattle.basics.specs.Over.{sumTo, maxTo, firstTo, joinTo}
 use Rattle.basics.specs.Text.{bytes}
 use Rattle.table.specs.declared.Table.{Table}
 use Rattle.table.specs.declared.Checked.the-variants.{Fine}
@@ -25,7 +25,7 @@ use Rattle.theory.specs.Demand.{sharedCT, otherCT, allCT, highCT, DB, S, O, F, 
 use Rattle.theory.proofs.VerdictLaws.{climb}
 use Rattle.analysis.specs.Tables.{verdictIn}
 use Rattle.analysis.proofs.ByIterates.{iterate-meets, iterate-misses}
-use Rattle.page.specs.Report.{verdictText, rowText, rowsText, reportText}
+use Rattle.page.specs.Report.{verdictText, rowText, pageText, reportText}
 use Rattle.page.proofs.Reports.{report-accepted}
 use Rattle.promises.specs.Points.{Holds, All, none, _and_, points}
 
@@ -36,8 +36,8 @@ tableIn s = readListing (bytes s) .table
 -- the report on a listing of three tasks, by their verdicts
 three : (s : String) (a b c : Verdict) → readListing (bytes s) .answer ≡ Fine → tableIn s .n ≡ 3
     → verdictIn (tableIn s) (level 0) ≡ a → verdictIn (tableIn s) (level 1) ≡ b → verdictIn (tableIn s) (level 2) ≡ c
-    → reportText (bytes s) ≡ ((bytes "task verdict bound_us\n" ++ rowText 1 a) ++ rowText 2 b) ++ rowText 3 c
-unfolding rowsText
+    → reportText (bytes s) ≡ bytes "task verdict bound_us\n" ++ ((rowText 1 a ++ rowText 2 b) ++ rowText 3 c)
+unfolding pageText joinTo
 three s a b c e n p q r =
     report-accepted (bytes s) (tableIn s) (λ j. record { answer = e j; table = tableIn s })
     ∙ rw (n, p, q, r)

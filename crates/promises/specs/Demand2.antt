@@ -14,7 +14,7 @@ use Rattle.analysis.specs.declared.Answer.the-variants.{Known}
 use Rattle.analysis.specs.declared.Record.{Record}
 use Rattle.analysis.specs.Tables.{viewOf}
 use Rattle.analysis.specs.Answers.{boundOf, analysisFault, analysed}
-use Rattle.promises.specs.Words.{_exactly-if_}
+use Rattle.basics.specs.Exactly.{_exactly-if_}
 use Rattle.meaning.specs.Meaning.{Correct, Complete, PassesCheck}
 use Rattle.meaning.specs.Back.{TextFits, ReadsBack, ClearedSame, Rewrites, SameText}
 

@@ -1,8 +1,9 @@
 -- Demand 3: a table made harder never gives a smaller bound.
-use Prim.Native.Nat.{ℕ, _≤_, _<_}
+use Prim.Native.Nat.{ℕ, _+_, _-_, _≤_, _<_}
 use mathlib.Core.Path.{_≡_}
-use mathlib.Core.List.{_∷_}
-use lib.ListN.{replicate}
+use mathlib.Core.List.{List, [], _∷_, _++_}
+use lib.ListN.{length, replicate}
+use Rattle.table.specs.declared.Level.{Level}
 use Rattle.table.specs.declared.Pair.{Pair}
 use Rattle.table.specs.declared.Task.{Task}
 use Rattle.table.specs.declared.Table.{Table}
@@ -36,24 +37,34 @@ task T C D p = record { period = T; run = C; deadline = D; pairs = p ∷ replica
 abbrev pair : ℕ → ℕ → ℕ → Pair
 pair N c CT = record { requests = N; longest = c; total = CT }
 
--- case A, with the N of its first task and the longest request of its third
-unfoldable pub caseA : ℕ → ℕ → Table
-caseA N c =
+-- case A, with m, the N of its first task, the T of its second, the longest request of its third, and the tasks below
+unfoldable pub caseA : ℕ → ℕ → ℕ → ℕ → List Task → Table
+caseA m N T c below =
     record {
-      cpus = 2;
-      n = 3;
+      cpus = m;
+      n = 3 + length below;
       tasks =
           task 10_000 2_500 10_000 (pair N 500 500)
-          ∷ task 20_000 4_000 15_000 unusedPair
+          ∷ task T 4_000 15_000 unusedPair
           ∷ task 30_000 6_000 30_000 (pair 2 c 1_500)
-          ∷ replicate 29 emptyTask;
+          ∷ (below ++ replicate (29 - length below) emptyTask);
     }
 
+-- a made harder is b, and the bound of task i goes from u to w
+pub record Grows (a b : Table) (i : Level) (u w : ℕ) : Type 0 where
+  pub harder : MadeHarder a b
+  pub before : boundOf a i ≡ Known (Meets u)
+  pub after : boundOf b i ≡ Known (Meets w)
+
 pub record NotEmpty : Type 0 where
-  pub before : boundOf (caseA 1 750) (level 0) ≡ Known (Meets 3_250)
-  -- a longer request below: task 1 waits longer for it, and its bound grows
-  pub longer : MadeHarder (caseA 1 750) (caseA 1 1_000)
-  pub grows : boundOf (caseA 1 1_000) (level 0) ≡ Known (Meets 3_500)
+  -- a longer request below: task 1 waits longer for it
+  pub longer : Grows (caseA 2 1 20_000 750 []) (caseA 2 1 20_000 1_000 []) (level 0) 3_250 3_500
   -- more requests: it waits so often that it can miss its deadline
-  pub oftener : MadeHarder (caseA 1 750) (caseA 20 750)
-  pub misses : boundOf (caseA 20 750) (level 0) ≡ Known Misses
+  pub oftener : MadeHarder (caseA 2 1 20_000 750 []) (caseA 2 20 20_000 750 [])
+  pub misses : boundOf (caseA 2 20 20_000 750 []) (level 0) ≡ Known Misses
+  -- fewer processors: task 2 loses the short form
+  pub fewer : Grows (caseA 2 1 20_000 750 []) (caseA 1 1 20_000 750 []) (level 1) 4_000 14_500
+  -- and of task 3, which is below the m-th: fewer processors, a shorter period above it, a task added at the bottom
+  pub fewer-third : Grows (caseA 2 1 20_000 750 []) (caseA 1 1 20_000 750 []) (level 2) 14_500 22_000
+  pub shorter : Grows (caseA 1 1 20_000 750 []) (caseA 1 1 15_000 750 []) (level 2) 22_000 28_000
+  pub added : Grows (caseA 2 1 20_000 750 []) (caseA 2 1 20_000 750 (task 40_000 3_000 40_000 (pair 1 900 900) ∷ [])) (level 2) 14_500 17_200

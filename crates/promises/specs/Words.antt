@@ -1,11 +1,6 @@
 -- Words that the promises are made of.
 use mathlib.Core.Path.{_≡_}
 
-infix 5 _exactly-if_
--- each from the other
-abbrev pub _exactly-if_ : Type 0 → Type 0 → Type 0
-P exactly-if Q = (P → Q) × (Q → P)
-
 -- a contract (`learnt`, as in basics/specs/Determined) says that the answer to the arguments a is `answer a`
 abbrev pub Answers : {A R X : Type 0} → (A → R → X → Type 0) → (A → R) → Type 0
 Answers {A} {R} {X} learnt answer = (a : A) (r : R) (x : X) → learnt a r x → r ≡ answer a
