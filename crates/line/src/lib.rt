@@ -5,6 +5,9 @@ ghost use Prim.Native.Nat.{_≤_};
 ghost use lib.ListN.{drop};
 ghost use lib.Dec.{eqb, ltb};
 ghost use Rattle.basics.specs.Text.{bytes};
+ghost use Rattle.table.specs.Limits.{maxTasks};
+ghost use Rattle.table.specs.declared.Fault.the-variants.{TooManyTasks};
+ghost use Rattle.table.specs.Faults.{_then_, unless};
 ghost use Rattle.field.specs.Number.{first, timeField, countField};
 ghost use Rattle.field.specs.declared.Field.the-variants.{Value};
 ghost use Rattle.line.specs.declared.Said.the-variants.{Not};
@@ -140,14 +143,36 @@ fn cpus_of(number: u32, m: u32) -> Said
     Said::Cpus(m)
 }
 
+// The first of two checks that has something against the line.
+fn first_of(a: Checked, b: Checked) -> Checked
+    ensures { λ r. ⌜ r ≡ (a then b) ⌝ }
+{
+    if let Checked::Refused(r) = a {
+        return Checked::Refused(r);
+    }
+    b
+}
+
+// 8, of a task after so many.
+fn room_after(tasks: usize, number: u32) -> Checked
+    ensures { λ r. ⌜ r ≡ unless (ltb tasks maxTasks) TooManyTasks number ⌝ }
+{
+    if Table::MAX_TASKS <= tasks {
+        return Checked::Refused(Refusal {
+            fault: Fault::TooManyTasks,
+            place: number,
+        });
+    }
+    Checked::Fine
+}
+
 // 8, then 4 and 5, of a task.
 fn task_of(past: Past, number: u32, period: u32, run: u32, deadline: u32) -> Said
     ensures { λ r. ⌜ r ≡ taskLine past number (Value period 0) (Value run 0) (Value deadline 0) ⌝ }
 {
-    if Table::MAX_TASKS <= past.tasks {
-        return refuse(Fault::TooManyTasks, number);
-    }
-    if let Checked::Refused(r) = rules::times(number, period, run, deadline) {
+    let room = room_after(past.tasks, number);
+    let times = rules::times(number, period, run, deadline);
+    if let Checked::Refused(r) = first_of(room, times) {
         return Said::Not(r);
     }
     Said::Task(period, run, deadline)

@@ -5,22 +5,22 @@ use mathlib.Core.Path.{_≡_}
 use mathlib.Core.List.{List, [], _∷_, map}
 use lib.ListN.{replicate}
 use Rattle.basics.specs.Text.{bytes}
-use Rattle.table.specs.declared.Pair.{Pair}
-use Rattle.table.specs.declared.Task.{Task}
 use Rattle.table.specs.declared.Table.{Table}
 use Rattle.table.specs.declared.Fault.{Fault}
 use Rattle.table.specs.declared.Fault.the-variants.{TooLong, BadForm, BadField, OutOfRange, BadTimes, NotRising, BadTotals, TooManyTasks, NoTask}
 use Rattle.table.specs.declared.Checked.{Checked}
-use Rattle.table.specs.declared.Checked.the-variants.{Fine, Refused}
+use Rattle.table.specs.declared.Checked.the-variants.{Fine}
 use Rattle.table.specs.Empty.{unusedPair, emptyTask}
+use Rattle.table.specs.At.{pair, task}
+use Rattle.table.specs.Faults.{at}
 use Rattle.listing.specs.Read.{readListing, newTask, accepted, refused}
 
 pub record Case : Type 0 where
   pub text : String
   pub answer : Checked
 
-abbrev at : String → Fault → ℕ → Case
-at text fault place = record { text = text; answer = Refused (record { fault = fault; place = place }) }
+abbrev bad : String → Fault → ℕ → Case
+bad text fault place = record { text = text; answer = at fault place }
 
 abbrev fine : String → Case
 fine text = record { text = text; answer = Fine }
@@ -44,72 +44,72 @@ cases =
     fine caseA
     ∷ fine full
     -- an empty listing; no task; a last line without LF; an empty line; nothing but LF
-    ∷ at "" BadForm 1
-    ∷ at "cpus 2\n" NoTask 2
-    ∷ at "cpus 2" BadForm 1
-    ∷ at "cpus 2\ntask 10 2.5 10" BadForm 2
-    ∷ at "cpus 65\ntask 10 2.5 10" OutOfRange 1
-    ∷ at "\n" BadForm 1
-    ∷ at "cpus 2\n\ntask 10 2.5 10\n" BadForm 2
-    ∷ at "cpus 2\ntask 10 2.5 10\n\n" BadForm 3
+    ∷ bad "" BadForm 1
+    ∷ bad "cpus 2\n" NoTask 2
+    ∷ bad "cpus 2" BadForm 1
+    ∷ bad "cpus 2\ntask 10 2.5 10" BadForm 2
+    ∷ bad "cpus 65\ntask 10 2.5 10" OutOfRange 1
+    ∷ bad "\n" BadForm 1
+    ∷ bad "cpus 2\n\ntask 10 2.5 10\n" BadForm 2
+    ∷ bad "cpus 2\ntask 10 2.5 10\n\n" BadForm 3
     -- `cpus` missing, not first, twice; `use` before a task; another word
-    ∷ at "task 10 2.5 10\n" BadForm 1
-    ∷ at "task 10 2.5 10\ncpus 2\n" BadForm 1
-    ∷ at "cpus 2\ncpus 2\n" BadForm 2
-    ∷ at "cpus 2\ntask 10 2.5 10\ncpus 2\n" BadForm 3
-    ∷ at "cpus 2\nuse 1 1 1 1\n" BadForm 2
-    ∷ at "cpus 2\nTask 10 2.5 10\n" BadForm 2
-    ∷ at "cpus 2\ntasks 10 2.5 10\n" BadForm 2
+    ∷ bad "task 10 2.5 10\n" BadForm 1
+    ∷ bad "task 10 2.5 10\ncpus 2\n" BadForm 1
+    ∷ bad "cpus 2\ncpus 2\n" BadForm 2
+    ∷ bad "cpus 2\ntask 10 2.5 10\ncpus 2\n" BadForm 3
+    ∷ bad "cpus 2\nuse 1 1 1 1\n" BadForm 2
+    ∷ bad "cpus 2\nTask 10 2.5 10\n" BadForm 2
+    ∷ bad "cpus 2\ntasks 10 2.5 10\n" BadForm 2
     -- spaces: two, at the front, at the end; fields: too few, too many
-    ∷ at "cpus 2\ntask 10 2.5  10\n" BadForm 2
-    ∷ at "cpus 2\n task 10 2.5 10\n" BadForm 2
-    ∷ at "cpus 2\ntask 10 2.5 10 \n" BadForm 2
-    ∷ at "cpus \n" BadForm 1
-    ∷ at "cpus\n" BadForm 1
-    ∷ at "cpus 2\ntask 10 2.5\n" BadForm 2
-    ∷ at "cpus 2\ntask 10 2.5 10 10\n" BadForm 2
+    ∷ bad "cpus 2\ntask 10 2.5  10\n" BadForm 2
+    ∷ bad "cpus 2\n task 10 2.5 10\n" BadForm 2
+    ∷ bad "cpus 2\ntask 10 2.5 10 \n" BadForm 2
+    ∷ bad "cpus \n" BadForm 1
+    ∷ bad "cpus\n" BadForm 1
+    ∷ bad "cpus 2\ntask 10 2.5\n" BadForm 2
+    ∷ bad "cpus 2\ntask 10 2.5 10 10\n" BadForm 2
     -- a field badly formed, whatever else the line has; CR and tab are ordinary bytes
-    ∷ at "cpus x\n" BadField 1
-    ∷ at "cpus 2\r\n" BadField 1
-    ∷ at "cpus\t2\n" BadForm 1
-    ∷ at "cpus 00002\n" BadField 1
-    ∷ at "cpus 2\ntask 10 2. 0\n" BadField 2
-    ∷ at "cpus 2\ntask 0 11 1x\n" BadField 2
-    ∷ at (using5 "use 0 x 1 1\n") BadField 3
-    ∷ at (using5 "use 17 1 9 9.0000\n") BadField 3
+    ∷ bad "cpus x\n" BadField 1
+    ∷ bad "cpus 2\r\n" BadField 1
+    ∷ bad "cpus\t2\n" BadForm 1
+    ∷ bad "cpus 00002\n" BadField 1
+    ∷ bad "cpus 2\ntask 10 2. 0\n" BadField 2
+    ∷ bad "cpus 2\ntask 0 11 1x\n" BadField 2
+    ∷ bad (using5 "use 0 x 1 1\n") BadField 3
+    ∷ bad (using5 "use 17 1 9 9.0000\n") BadField 3
     -- ranges
-    ∷ at "cpus 65\n" OutOfRange 1
-    ∷ at "cpus 0\n" OutOfRange 1
-    ∷ at "cpus 2\ntask 10 2 0\n" OutOfRange 2
-    ∷ at "cpus 2\ntask 10000.001 2 2\n" OutOfRange 2
+    ∷ bad "cpus 65\n" OutOfRange 1
+    ∷ bad "cpus 0\n" OutOfRange 1
+    ∷ bad "cpus 2\ntask 10 2 0\n" OutOfRange 2
+    ∷ bad "cpus 2\ntask 10000.001 2 2\n" OutOfRange 2
     ∷ fine "cpus 64\ntask 10000 10000 10000\nuse 16 1000 10000 10000\n"
-    ∷ at (using5 "use 17 1 1 1\n") OutOfRange 3
-    ∷ at (using5 "use 0 1 1 1\n") OutOfRange 3
-    ∷ at (using5 "use 1 0 1 1\n") OutOfRange 3
-    ∷ at (using5 "use 1 1001 1 1\n") OutOfRange 3
-    ∷ at (using5 "use 1 1 0 1\n") OutOfRange 3
+    ∷ bad (using5 "use 17 1 1 1\n") OutOfRange 3
+    ∷ bad (using5 "use 0 1 1 1\n") OutOfRange 3
+    ∷ bad (using5 "use 1 0 1 1\n") OutOfRange 3
+    ∷ bad (using5 "use 1 1001 1 1\n") OutOfRange 3
+    ∷ bad (using5 "use 1 1 0 1\n") OutOfRange 3
     -- 5: C above D, D above T; 4 comes before it
-    ∷ at "cpus 2\ntask 10 9 8\n" BadTimes 2
-    ∷ at "cpus 2\ntask 10 9 11\n" BadTimes 2
-    ∷ at "cpus 2\ntask 0 9 11\n" OutOfRange 2
+    ∷ bad "cpus 2\ntask 10 9 8\n" BadTimes 2
+    ∷ bad "cpus 2\ntask 10 9 11\n" BadTimes 2
+    ∷ bad "cpus 2\ntask 0 9 11\n" OutOfRange 2
     -- 6: K equal, falling; 4 comes before it, it comes before 7; a new task begins again
-    ∷ at (using5 "use 2 1 1 1\nuse 2 1 1 1\n") NotRising 4
-    ∷ at (using5 "use 2 1 1 1\nuse 1 1 1 1\n") NotRising 4
-    ∷ at (using5 "use 2 1 1 1\nuse 0 1 1 1\n") OutOfRange 4
-    ∷ at (using5 "use 2 1 1 1\nuse 1 1 9 9\n") NotRising 4
+    ∷ bad (using5 "use 2 1 1 1\nuse 2 1 1 1\n") NotRising 4
+    ∷ bad (using5 "use 2 1 1 1\nuse 1 1 1 1\n") NotRising 4
+    ∷ bad (using5 "use 2 1 1 1\nuse 0 1 1 1\n") OutOfRange 4
+    ∷ bad (using5 "use 2 1 1 1\nuse 1 1 9 9\n") NotRising 4
     ∷ fine (using5 "use 2 1 1 1\ntask 10 5 10\nuse 2 1 1 1\n")
     -- 7: c above CT, CT above N × c, sums that just fit and one over; a new task begins again
-    ∷ at (using5 "use 2 2 1 0.999\n") BadTotals 3
-    ∷ at (using5 "use 2 2 1 2.001\n") BadTotals 3
+    ∷ bad (using5 "use 2 2 1 0.999\n") BadTotals 3
+    ∷ bad (using5 "use 2 2 1 2.001\n") BadTotals 3
     ∷ fine (using5 "use 1 3 1 3\nuse 2 2 1 2\n")
-    ∷ at (using5 "use 1 3 1 3\nuse 2 3 1 2.001\n") BadTotals 4
+    ∷ bad (using5 "use 1 3 1 3\nuse 2 3 1 2.001\n") BadTotals 4
     ∷ fine (using5 "use 1 3 1 3\ntask 10 5 10\nuse 2 3 1 3\n")
     -- a 33rd task: 8, before a field out of range, after a field badly formed
-    ∷ at (full ++ "task 10 2.5 10\n") TooManyTasks 34
-    ∷ at (full ++ "task 0 11 10\n") TooManyTasks 34
-    ∷ at (full ++ "task 10 x 10\n") BadField 34
+    ∷ bad (full ++ "task 10 2.5 10\n") TooManyTasks 34
+    ∷ bad (full ++ "task 0 11 10\n") TooManyTasks 34
+    ∷ bad (full ++ "task 10 x 10\n") BadField 34
     -- of two faulty lines the first
-    ∷ at "cpus 2\ntask 10 9 8\nuse 0 x\n" BadTimes 2
+    ∷ bad "cpus 2\ntask 10 9 8\nuse 0 x\n" BadTimes 2
     ∷ []
 
 -- case A as a table: zeros past the third task
@@ -119,14 +119,11 @@ tableA =
       cpus = 2;
       n = 3;
       tasks =
-          uses 10_000 2_500 10_000 (record { requests = 1; longest = 500; total = 500 })
+          task 10_000 2_500 10_000 (pair 1 500 500 ∷ replicate 15 unusedPair)
           ∷ newTask 20_000 4_000 15_000
-          ∷ uses 30_000 6_000 30_000 (record { requests = 2; longest = 750; total = 1_500 })
+          ∷ task 30_000 6_000 30_000 (pair 2 750 1_500 ∷ replicate 15 unusedPair)
           ∷ replicate 29 emptyTask;
     }
-  where
-    uses : ℕ → ℕ → ℕ → Pair → Task
-    uses T C D p = record { period = T; run = C; deadline = D; pairs = p ∷ replicate 15 unusedPair }
 
 abbrev pub CasesHold : Type 0
 CasesHold =

@@ -118,7 +118,7 @@ pub record Keeps : Type 0 where
   -- "a refused reading gives no table"
   pub table : (s : List ℕ) (r : Refusal) → readListing s .answer ≡ Refused r → readListing s .table ≡ emptyTable
 
--- ---- a refusal is given, with its number and place, exactly when its rule is the first that fails (`Refuses c k at`: the check c refuses with k at a place)
+-- ---- a refusal is given, with its number and place, exactly when its rule is the first that fails (`Refuses c k p`: the check c refuses with k p a place)
 
 pub record FirstDecides : Type 0 where
   -- no two refusals have one number
@@ -127,9 +127,9 @@ pub record FirstDecides : Type 0 where
   pub listing : RefusedAsCalled
   -- of a table: one rule, two rules after each other, and the rules of n things
   pub rule : (test : Bool) (fault : Fault) (place : ℕ) → Refuses (unless test fault place) (numberOf fault) place exactly-if (test ≡ false)
-  pub two : (a b : Checked) (k at : ℕ) → Refuses (a then b) k at exactly-if (Refuses a k at ⊎ ((a ≡ Fine) × Refuses b k at))
-  pub many : (n : ℕ) (f : ℕ → Checked) (k at : ℕ)
-      → Refuses (firstFault n f) k at exactly-if ((i : ℕ) × (i < n) × Refuses (f i) k at × ((j : ℕ) → j < i → f j ≡ Fine))
+  pub two : (a b : Checked) (k p : ℕ) → Refuses (a then b) k p exactly-if (Refuses a k p ⊎ ((a ≡ Fine) × Refuses b k p))
+  pub many : (n : ℕ) (f : ℕ → Checked) (k p : ℕ)
+      → Refuses (firstFault n f) k p exactly-if ((i : ℕ) × (i < n) × Refuses (f i) k p × ((j : ℕ) → j < i → f j ≡ Fine))
   -- a table is accepted exactly if it holds the paper's bounds
   pub fine : (t : Table) → (tableFault t ≡ Fine) exactly-if Accepted t
   -- after the table's own: 10, and 11 for a row and for an output

@@ -9,6 +9,7 @@ use Rattle.table.specs.declared.Task.{Task}
 use Rattle.table.specs.declared.Table.{Table}
 use Rattle.table.specs.declared.Checked.the-variants.{Fine}
 use Rattle.table.specs.Empty.{unusedPair, emptyTask}
+use Rattle.table.specs.At.{pair, task}
 use Rattle.table.specs.Rules.{tableFault}
 use Rattle.theory.specs.declared.Verdict.the-variants.{Meets, Misses}
 use Rattle.theory.specs.View.{level}
@@ -31,11 +32,9 @@ Demand3 =
 
 -- ---- that is not said of nothing: case A, and case A made harder
 
-abbrev task : ℕ → ℕ → ℕ → Pair → Task
-task T C D p = record { period = T; run = C; deadline = D; pairs = p ∷ replicate 15 unusedPair }
-
-abbrev pair : ℕ → ℕ → ℕ → Pair
-pair N c CT = record { requests = N; longest = c; total = CT }
+-- a task that uses at most the first resource
+abbrev using1 : ℕ → ℕ → ℕ → Pair → Task
+using1 T C D p = task T C D (p ∷ replicate 15 unusedPair)
 
 -- case A, with m, the N of its first task, the T of its second, the longest request of its third, and the tasks below
 unfoldable pub caseA : ℕ → ℕ → ℕ → ℕ → List Task → Table
@@ -44,9 +43,9 @@ caseA m N T c below =
       cpus = m;
       n = 3 + length below;
       tasks =
-          task 10_000 2_500 10_000 (pair N 500 500)
-          ∷ task T 4_000 15_000 unusedPair
-          ∷ task 30_000 6_000 30_000 (pair 2 c 1_500)
+          using1 10_000 2_500 10_000 (pair N 500 500)
+          ∷ using1 T 4_000 15_000 unusedPair
+          ∷ using1 30_000 6_000 30_000 (pair 2 c 1_500)
           ∷ (below ++ replicate (29 - length below) emptyTask);
     }
 
@@ -67,4 +66,4 @@ pub record NotEmpty : Type 0 where
   -- and of task 3, which is below the m-th: fewer processors, a shorter period above it, a task added at the bottom
   pub fewer-third : Grows (caseA 2 1 20_000 750 []) (caseA 1 1 20_000 750 []) (level 2) 14_500 22_000
   pub shorter : Grows (caseA 1 1 20_000 750 []) (caseA 1 1 15_000 750 []) (level 2) 22_000 28_000
-  pub added : Grows (caseA 2 1 20_000 750 []) (caseA 2 1 20_000 750 (task 40_000 3_000 40_000 (pair 1 900 900) ∷ [])) (level 2) 14_500 17_200
+  pub added : Grows (caseA 2 1 20_000 750 []) (caseA 2 1 20_000 750 (using1 40_000 3_000 40_000 (pair 1 900 900) ∷ [])) (level 2) 14_500 17_200

@@ -50,42 +50,42 @@ one-number a b e = sym (number-back a) ∙ ap faultOf e ∙ number-back b
 -- ---- one rule, two rules, and the rules of n things
 
 -- a check that is fine refuses nothing
-not-refused : {A : Type 0} {c : Checked} {k at : ℕ} → c ≡ Fine → Refuses c k at → A
+not-refused : {A : Type 0} {c : Checked} {k p : ℕ} → c ≡ Fine → Refuses c k p → A
 not-refused e (r, f, t) = let z : _≡_ {A = ℕ} 0 1 = cc in absurd (omega arith)
 
 pub rule-decides : (test : Bool) (fault : Fault) (place : ℕ) → Refuses (unless test fault place) (numberOf fault) place exactly-if (test ≡ false)
 rule-decides true fault place = (not-refused refl, λ e. let z : _≡_ {A = ℕ} 0 1 = cc in absurd (omega arith))
 rule-decides false fault place = (λ x. refl, λ e. (_, refl, record { number = refl; place = refl }))
 
-pub two-decide : (a b : Checked) (k at : ℕ) → Refuses (a then b) k at exactly-if (Refuses a k at ⊎ ((a ≡ Fine) × Refuses b k at))
-two-decide Fine b k at = (λ x. inr (refl, x), back)
+pub two-decide : (a b : Checked) (k p : ℕ) → Refuses (a then b) k p exactly-if (Refuses a k p ⊎ ((a ≡ Fine) × Refuses b k p))
+two-decide Fine b k p = (λ x. inr (refl, x), back)
   where
-    back : Refuses Fine k at ⊎ ((Fine ≡ Fine) × Refuses b k at) → Refuses b k at
+    back : Refuses Fine k p ⊎ ((Fine ≡ Fine) × Refuses b k p) → Refuses b k p
     back (inl x) = not-refused refl x
     back (inr x) = x .1
-two-decide (Refused s) b k at = (λ x. inl x, back)
+two-decide (Refused s) b k p = (λ x. inl x, back)
   where
-    back : Refuses (Refused s) k at ⊎ ((Refused s ≡ Fine) × Refuses b k at) → Refuses (Refused s) k at
+    back : Refuses (Refused s) k p ⊎ ((Refused s ≡ Fine) × Refuses b k p) → Refuses (Refused s) k p
     back (inl x) = x
     back (inr x) = let z : _≡_ {A = ℕ} 0 1 = cc in absurd (omega arith)
 
 -- the thing at i is refused, and those before it are not
 abbrev First : ℕ → (ℕ → Checked) → ℕ → ℕ → Type 0
-First n f k at = (i : ℕ) × (i < n) × Refuses (f i) k at × ((j : ℕ) → j < i → f j ≡ Fine)
+First n f k p = (i : ℕ) × (i < n) × Refuses (f i) k p × ((j : ℕ) → j < i → f j ≡ Fine)
 
-first-of : (n : ℕ) (f : ℕ → Checked) (k at : ℕ) → Refuses (firstFault n f) k at → First n f k at
+first-of : (n : ℕ) (f : ℕ → Checked) (k p : ℕ) → Refuses (firstFault n f) k p → First n f k p
 unfolding firstFault
-first-of zero f k at x = not-refused refl x
-first-of (suc n) f k at x = go (two-decide (firstFault n f) (f n) k at .0 x) (first-of n f k at)
+first-of zero f k p x = not-refused refl x
+first-of (suc n) f k p x = go (two-decide (firstFault n f) (f n) k p .0 x) (first-of n f k p)
   where
-    go : Refuses (firstFault n f) k at ⊎ ((firstFault n f ≡ Fine) × Refuses (f n) k at) → (Refuses (firstFault n f) k at → First n f k at)
-        → First (suc n) f k at
+    go : Refuses (firstFault n f) k p ⊎ ((firstFault n f ≡ Fine) × Refuses (f n) k p) → (Refuses (firstFault n f) k p → First n f k p)
+        → First (suc n) f k p
     go (inl y) ih = let z = ih y in (z .0, omega (arith, z .1), z .2, z .3)
     go (inr y) ih = (n, le-refl (suc n), y .1, each-fine n f (y .0))
 
-pub many-decide : (n : ℕ) (f : ℕ → Checked) (k at : ℕ) → Refuses (firstFault n f) k at exactly-if First n f k at
-many-decide n f k at =
-    (first-of n f k at, λ x. let y = x .2 in (y .0, first-at n (x .0) f (y .0) (x .1) (first-fine (x .0) f (x .3)) (y .1), y .2))
+pub many-decide : (n : ℕ) (f : ℕ → Checked) (k p : ℕ) → Refuses (firstFault n f) k p exactly-if First n f k p
+many-decide n f k p =
+    (first-of n f k p, λ x. let y = x .2 in (y .0, first-at n (x .0) f (y .0) (x .1) (first-fine (x .0) f (x .3)) (y .1), y .2))
 
 -- ---- 10 and 11, which are asked for after the table's own rules
 

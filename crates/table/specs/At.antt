@@ -1,7 +1,7 @@
--- A task and a pair by index, counted from 0, and when two tables are the same.
+-- A task and a pair, by their figures and by index, counted from 0, and when two tables are the same.
 use Prim.Native.Nat.{ℕ, _<_}
 use mathlib.Core.Path.{_≡_}
-use mathlib.Core.List.{[]}
+use mathlib.Core.List.{List, []}
 use lib.ListN.{getD}
 use Rattle.table.specs.declared.Pair.{Pair}
 use Rattle.table.specs.declared.Task.{Task}
@@ -12,6 +12,13 @@ use Rattle.table.specs.Empty.{unusedPair}
 -- what the checker reads past a row's end, so that `taskAt t i` is the code's `t.tasks[i]`
 abbrev pub noTask : Task
 noTask = record { period = 0; run = 0; deadline = 0; pairs = [] }
+
+-- a pair of N, c and CT, and a task of T, C, D and pairs
+abbrev pub pair : ℕ → ℕ → ℕ → Pair
+pair N c CT = record { requests = N; longest = c; total = CT }
+
+abbrev pub task : ℕ → ℕ → ℕ → List Pair → Task
+task T C D pairs = record { period = T; run = C; deadline = D; pairs = pairs }
 
 -- task i + 1 of the paper
 abbrev pub taskAt : Table → ℕ → Task

@@ -6,11 +6,12 @@ use lib.ListN.{replicate}
 use Rattle.table.specs.declared.Pair.{Pair}
 use Rattle.table.specs.declared.Task.{Task}
 use Rattle.table.specs.declared.Table.{Table}
-use Rattle.table.specs.declared.Fault.{Fault}
 use Rattle.table.specs.declared.Fault.the-variants.{OutOfRange, BadTimes, BadTotals, TooManyTasks, NoTask}
 use Rattle.table.specs.declared.Checked.{Checked}
-use Rattle.table.specs.declared.Checked.the-variants.{Fine, Refused}
+use Rattle.table.specs.declared.Checked.the-variants.{Fine}
 use Rattle.table.specs.Empty.{unusedPair}
+use Rattle.table.specs.At.{pair, task}
+use Rattle.table.specs.Faults.{at}
 use Rattle.table.specs.Rules.{tableFault}
 
 pub record Case : Type 0 where
@@ -20,17 +21,6 @@ pub record Case : Type 0 where
 -- m, n, the tasks, and the answer
 abbrev case : ℕ → ℕ → List Task → Checked → Case
 case m n tasks answer = record { table = record { cpus = m; n = n; tasks = tasks }; answer = answer }
-
-abbrev at : Fault → ℕ → Checked
-at fault place = Refused (record { fault = fault; place = place })
-
--- T, C, D and the pairs
-abbrev task : ℕ → ℕ → ℕ → List Pair → Task
-task T C D pairs = record { period = T; run = C; deadline = D; pairs = pairs }
-
--- N, c and CT
-abbrev pair : ℕ → ℕ → ℕ → Pair
-pair N c CT = record { requests = N; longest = c; total = CT }
 
 -- a task that nothing is said against
 abbrev good : Task

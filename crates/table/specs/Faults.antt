@@ -33,13 +33,13 @@ numberOf UnknownTask = 10
 numberOf TooShort = 11
 
 -- a refusal told by the paper's number and its place
-pub record Told (r : Refusal) (k at : ℕ) : Type 0 where
+pub record Told (r : Refusal) (k p : ℕ) : Type 0 where
   pub number : numberOf (r .fault) ≡ k
-  pub place : r .place ≡ at
+  pub place : r .place ≡ p
 
 -- a check that refuses with the number k, at a place
 abbrev pub Refuses : Checked → ℕ → ℕ → Type 0
-Refuses c k at = (r : Refusal) × (c ≡ Refused r) × Told r k at
+Refuses c k p = (r : Refusal) × (c ≡ Refused r) × Told r k p
 
 infixr 20 _then_
 -- the first fault decides
@@ -47,10 +47,13 @@ abbrev pub _then_ : Checked → Checked → Checked
 Fine then b = b
 Refused r then b = Refused r
 
+abbrev pub at : Fault → ℕ → Checked
+at fault place = Refused (record { fault = fault; place = place })
+
 -- the fault at the place, unless the test holds
 abbrev pub unless : Bool → Fault → ℕ → Checked
 unless true fault place = Fine
-unless false fault place = Refused (record { fault = fault; place = place })
+unless false fault place = at fault place
 
 -- the first fault of f 0, f 1, .., f (n − 1)
 unfoldable pub firstFault : ℕ → (ℕ → Checked) → Checked

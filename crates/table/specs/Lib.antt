@@ -1,7 +1,7 @@
 -- What a reader must believe of the table, in the paper's order.
 --   Limits     "Quantities": the limits
 --   Empty      the empty table
---   At         a task and a pair by index; when two tables are the same
+--   At         a task and a pair, by their figures and by index; when two tables are the same
 --   Faults     "Refusals by number": the number of each, and how the first decides
 --   Rules      the rules 4, 5 and 7, and "A table handed over directly is checked too"
 --   Accepted   "Quantities" as bounds: what an accepted table holds

@@ -1,6 +1,54 @@
--- The paper's point on the quotient, computed: "m 3, O, F and L each 1: the quotient is 1, not 3".
+-- Computed: the paper's point on the quotient, and a demand that tells the terms from the easy slips. With only case A, O or L dropped, a ceiling equal to i
+-- taken into L, or a quotient rounded down would not be seen.
+use Prim.Native.Nat.{ℕ, pred}
 use mathlib.Core.Path.{_≡_}
-use Rattle.theory.specs.Work.{quotient}
+use mathlib.Core.List.{List, [], _∷_}
+use lib.ListN.{getD}
+use Rattle.table.specs.declared.Level.{Level}
+use Rattle.table.specs.declared.Resource.{Resource}
+use Rattle.table.specs.declared.Pair.{Pair}
+use Rattle.table.specs.Empty.{unusedPair}
+use Rattle.table.specs.At.{pair}
+use Rattle.theory.specs.Work.{workload, quotient}
+use Rattle.theory.specs.View.{View, level}
+use Rattle.theory.specs.Demand.{DB, S, O, F, L, demandOf}
 
-abbrev pub OneQuotient : Type 0
-OneQuotient = quotient 1 1 1 3 ≡ 1
+-- Two processors and four tasks, T and D 100 each. Locks: 1 of tasks 1 and 4; 2 of tasks 3 and 4, so that its ceiling is 3; 3 of tasks 2 and 3
+abbrev rows : List (List Pair)
+rows =
+    (pair 1 2 2 ∷ [])
+    ∷ (unusedPair ∷ unusedPair ∷ pair 1 1 1 ∷ [])
+    ∷ (unusedPair ∷ pair 2 4 5 ∷ pair 1 1 1 ∷ [])
+    ∷ (pair 1 3 3 ∷ pair 1 6 6 ∷ [])
+    ∷ []
+
+abbrev pairs : Level → Resource → Pair
+pairs l k = getD (getD rows (pred (l .0)) []) (pred (k .0)) unusedPair
+
+unfoldable pub four : View
+four =
+    record {
+      cpus = 2;
+      n = 4;
+      T = λ l. 100;
+      C = λ l. getD (10 ∷ 10 ∷ 20 ∷ 30 ∷ []) (pred (l .0)) 0;
+      D = λ l. 100;
+      N = λ l k. pairs l k .requests;
+      c = λ l k. pairs l k .longest;
+      CT = λ l k. pairs l k .total;
+    }
+
+pub record CasesHold : Type 0 where
+  -- "m 3, O, F and L each 1: the quotient is 1, not 3"; with m 2 it is 2, not 1
+  pub third : quotient 1 1 1 3 ≡ 1
+  pub half : quotient 1 1 1 2 ≡ 2
+  -- of task 3 at t 3: twice the 6 of task 4's lock 2; task 2's lock 3; task 1's lock 1; 8 and 9 units without a lock; task 4's lock 1, and not its lock 2
+  pub waits : DB four (level 2) ≡ 12
+  pub shared : S workload four (level 2) 3 ≡ 2
+  pub others : O workload four (level 2) 3 ≡ 3
+  pub free : F workload four (level 2) 3 ≡ 17
+  pub lower : L workload four (level 2) 3 ≡ 3
+  -- C + DB + S and a half of 23
+  pub long : demandOf four (level 2) 3 ≡ 46
+  -- task 2 is the m-th: C + DB + S
+  pub short : demandOf four (level 1) 3 ≡ 11

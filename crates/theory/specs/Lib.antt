@@ -3,7 +3,7 @@
 --   View      what the analysis reads of a table
 --   Demand    (6) to (11): DB, S, O, F, L and the demand; the ceiling of a resource
 --   Verdict   the bound of a task, or a miss
---   Cases     the paper's point on the quotient
+--   Cases     the paper's point on the quotient, and a demand that tells the terms from the slips
 --   Harder    what demand 3 calls a table made harder
 pub mod Work
 pub mod View
