@@ -1,8 +1,9 @@
 //! The bound of each task, written from the paper's section 'The analysis'.
 
+use crate::listing;
 use crate::table::{Table, Task, LOCKS};
 
-/// Below this deadline every length is tried, and the iteration is held to what that finds.
+/// Up to this deadline every length is tried, and the climb is held to what that finds.
 const TRIED: u64 = 3_000;
 
 #[derive(Clone, Copy, PartialEq, Eq, Debug)]
@@ -11,8 +12,9 @@ pub enum Verdict {
     Misses,
 }
 
-/// The workload of a task over a length t, of which x units count.
+/// The workload of a task over a length t, of which x units count; x is at most the task's C.
 pub fn workload(task: &Task, t: u64, x: u64) -> u64 {
+    assert!(x <= task.c, "more units than the task runs");
     if t == 0 {
         return 0;
     }
@@ -22,27 +24,45 @@ pub fn workload(task: &Task, t: u64, x: u64) -> u64 {
     (q * x as i64 + (x as i64).min(rest)) as u64
 }
 
-/// The demand of the task at `i` (from 0) of a checked table, term by term as the paper lists them.
-pub fn demand(table: &Table, i: usize, t: u64) -> u64 {
-    let tasks = table.used();
-    let me = &tasks[i];
-    let uses = |task: &Task, k: usize| task.locks[k].n > 0;
-    let ceiling = |k: usize| tasks.iter().position(|task| uses(task, k));
-    let ct = |task: &Task, wanted: &dyn Fn(usize) -> bool| (0..LOCKS).filter(|&k| wanted(k)).map(|k| task.locks[k].ct).sum::<u64>();
+/// What the paper adds up for one task at one length, each under its own letter, so that each can be looked at.
+pub struct Terms {
+    pub db: u64,
+    pub s: u64,
+    pub o: u64,
+    pub f: u64,
+    pub l: u64,
+}
 
-    let db: u64 = (0..LOCKS)
-        .filter(|&k| uses(me, k))
-        .map(|k| me.locks[k].n * tasks[i + 1..].iter().map(|task| task.locks[k].c).max().unwrap_or(0))
-        .sum();
-    let above = &tasks[..i];
-    let s: u64 = above.iter().map(|l| workload(l, t, ct(l, &|k| uses(me, k)))).sum();
-    if i as u64 + 1 <= table.m {
-        return me.c + db + s;
+fn uses(task: &Task, k: usize) -> bool {
+    task.locks[k].n > 0
+}
+
+/// The CT of those of a task's resources that are wanted.
+fn total(task: &Task, wanted: impl Fn(usize) -> bool) -> u64 {
+    (0..LOCKS).filter(|&k| wanted(k)).map(|k| task.locks[k].ct).sum()
+}
+
+/// The terms of the task at `i` (from 0) of a checked table, as the paper lists them: nothing is kept from one length to the next.
+pub fn terms(table: &Table, i: usize, t: u64) -> Terms {
+    let tasks = table.used();
+    let (me, above, below) = (&tasks[i], &tasks[..i], &tasks[i + 1..]);
+    let ceiling: [Option<usize>; LOCKS] = std::array::from_fn(|k| tasks.iter().position(|task| uses(task, k)));
+    let longest_below = |k: usize| below.iter().map(|task| task.locks[k].c).max().unwrap_or(0);
+    Terms {
+        db: (0..LOCKS).filter(|&k| uses(me, k)).map(|k| me.locks[k].n * longest_below(k)).sum(),
+        s: above.iter().map(|l| workload(l, t, total(l, |k| uses(me, k)))).sum(),
+        o: above.iter().map(|l| workload(l, t, total(l, |k| !uses(me, k)))).sum(),
+        f: above.iter().map(|l| workload(l, t, l.c - total(l, |_| true))).sum(),
+        l: below.iter().map(|l| workload(l, t, total(l, |k| ceiling[k].is_some_and(|j| j < i)))).sum(),
     }
-    let o: u64 = above.iter().map(|l| workload(l, t, ct(l, &|k| !uses(me, k)))).sum();
-    let f: u64 = above.iter().map(|l| workload(l, t, l.c - ct(l, &|_| true))).sum();
-    let low: u64 = tasks[i + 1..].iter().map(|l| workload(l, t, ct(l, &|k| ceiling(k).is_some_and(|j| j < i)))).sum();
-    me.c + db + s + (o + f + low).div_ceil(table.m)
+}
+
+/// The demand of the task at `i` (from 0) of a checked table, made of the paper's terms.
+pub fn demand(table: &Table, i: usize, t: u64) -> u64 {
+    let Terms { db, s, o, f, l } = terms(table, i, t);
+    let number = i as u64 + 1;
+    let quotient = if number <= table.m { 0 } else { (o + f + l).div_ceil(table.m) };
+    table.tasks[i].c + db + s + quotient
 }
 
 /// One task's workload that counts: its period, its units, and D less the units.
@@ -137,22 +157,45 @@ pub fn iterate(table: &Table, i: usize) -> (Verdict, u64) {
     }
 }
 
+/// The demand by the paper's terms. `Reduced` is held to it at this length: it has the shape of the proved program's shares, and might have
+/// its slips.
+fn agreed(table: &Table, i: usize, reduced: &Reduced, t: u64) -> u64 {
+    let f = demand(table, i, t);
+    assert_eq!(reduced.demand(t), f, "not the paper's demand: task {} at {t} of\n{}", i + 1, listing::write(table));
+    f
+}
+
 /// The least length that covers its own demand, by trying each.
 fn tried(table: &Table, i: usize) -> Verdict {
     let reduced = Reduced::new(table, i);
-    (1..=table.tasks[i].d).find(|&t| reduced.demand(t) <= t).map_or(Verdict::Misses, Verdict::Meets)
+    (1..=table.tasks[i].d).find(|&t| agreed(table, i, &reduced, t) <= t).map_or(Verdict::Misses, Verdict::Meets)
 }
 
-/// The verdict on the task at `i`. Where it can, it holds the iteration to a search through every length, and both to the paper's terms.
+/// The same without trying each: no length below C covers its demand, and as demand never falls, none from a length up to the demand there
+/// does. So a miss too rests on the paper's terms, at every round: the ten million of the slow listing take about a second.
+fn climbed(table: &Table, i: usize) -> (Verdict, u64) {
+    let task = &table.tasks[i];
+    let reduced = Reduced::new(table, i);
+    let (mut t, mut rounds) = (task.c, 0);
+    while t <= task.d {
+        let f = agreed(table, i, &reduced, t);
+        rounds += 1;
+        if f <= t {
+            return (Verdict::Meets(t), rounds);
+        }
+        t = f;
+    }
+    (Verdict::Misses, rounds)
+}
+
+/// The verdict on the task at `i`, by the paper's terms. Where it can, it holds the climb to a search through every length; and always the
+/// iteration to the climb.
 pub fn verdict(table: &Table, i: usize) -> Verdict {
-    let (found, _) = iterate(table, i);
-    if let Verdict::Meets(t) = found {
-        assert!(demand(table, i, t) <= t, "the bound does not cover its demand");
-        assert!(t == 1 || demand(table, i, t - 1) > t - 1, "the bound is not the least");
-    }
+    let (found, rounds) = climbed(table, i);
     if table.tasks[i].d <= TRIED {
-        assert_eq!(found, tried(table, i), "the iteration and the search differ");
+        assert_eq!(found, tried(table, i), "the climb and the search differ: task {} of\n{}", i + 1, listing::write(table));
     }
+    assert_eq!(iterate(table, i), (found, rounds), "the iteration and the climb differ: task {} of\n{}", i + 1, listing::write(table));
     found
 }
 

@@ -4,12 +4,28 @@ use crate::table::BYTES;
 
 pub const CASE_A: &str = "cpus 2\ntask 10 2.5 10\nuse 1 1 0.5 0.5\ntask 20 4 15\ntask 30 6 30\nuse 1 2 0.75 1.5\n";
 
+/// Task 4's O, F and L are each 1, one share from each of three tasks: lock 1 is used above and below it, but not by it. S is 1 by lock 2.
+/// Lock 3 has ceiling 4, so that what task 5 holds of it is in task 4's DB alone.
+pub const THIRDS: &str = "cpus 3
+task 10 0.001 1
+use 1 1 0.001 0.001
+task 10 0.001 1
+task 10 0.001 1
+use 2 1 0.001 0.001
+task 10 0.005 1
+use 2 1 0.001 0.001
+use 3 2 0.001 0.002
+task 10 0.004 1
+use 1 1 0.001 0.001
+use 3 1 0.003 0.003
+";
+
 /// A task with these `use` lines after it, on lines 3 and on.
 fn with_uses(uses: &str) -> String {
     format!("cpus 2\ntask 10 5 10\n{uses}")
 }
 
-fn tasks(n: usize) -> String {
+pub fn tasks(n: usize) -> String {
     format!("cpus 4\n{}", "task 100 0.1 100\n".repeat(n))
 }
 
@@ -35,6 +51,9 @@ pub fn listings() -> Vec<Vec<u8>> {
         CASE_A,
         &CASE_A.replace("30 6 30", "30 6 14.5"),
         &CASE_A.replace("30 6 30", "30 6 14.499"),
+        THIRDS,
+        &THIRDS.replace("10 0.005 1", "10 0.005 0.013"),
+        &THIRDS.replace("10 0.005 1", "10 0.005 0.012"),
         // the listing itself
         "",
         "\n",
@@ -91,6 +110,8 @@ pub fn listings() -> Vec<Vec<u8>> {
         "cpus 2\ntask 10 10 10\n",
         "cpus 2\ntask 0 9 11\n",
         "cpus 2\ntask 10 9 8\nuse 0 x\n",
+        // N times c is past 32 bits, and its low half below CT
+        "cpus 2\ntask 10000 10000 10000\nuse 1 1000 4294.968 4294.968\n",
     ]
     .iter()
     .map(|text| text.as_bytes().to_vec())

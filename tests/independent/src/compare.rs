@@ -1,26 +1,52 @@
 //! Holds the programs to this one: on the paper's points, on edge cases, and on many generated listings and tables.
 
 use std::collections::BTreeMap;
+use std::fmt;
 use std::io::Write;
-use std::process::{Command, Stdio};
+use std::process::{Command, Output, Stdio};
 
 use crate::random::Random;
-use crate::{cases, generate, report};
+use crate::{cases, generate, listing, report};
 
 const VALID: u64 = 1_500;
 const DAMAGED: u64 = 2_500;
 
+/// What came up: how many listings or tables were compared, and each answer, of which a table gets several.
 pub struct Tally {
     pub compared: u64,
     outcomes: BTreeMap<String, u64>,
 }
 
-/// What a program writes to standard output, given this on standard input.
-pub fn run(program: &str, input: &[u8]) -> Vec<u8> {
-    let mut child = Command::new(program).stdin(Stdio::piped()).stdout(Stdio::piped()).spawn().unwrap_or_else(|e| panic!("{program}: {e}"));
+/// What a program wrote, and how it ended.
+pub struct Answer(Output);
+
+/// Runs a program, with this on its standard input.
+pub fn run(program: &str, input: &[u8]) -> Answer {
+    let mut command = Command::new(program);
+    command.stdin(Stdio::piped()).stdout(Stdio::piped()).stderr(Stdio::piped());
+    let mut child = command.spawn().unwrap_or_else(|e| panic!("{program}: {e}"));
     // a program may stop reading early; then the rest cannot be written, and that is no fault
     let _ = child.stdin.take().unwrap().write_all(input);
-    child.wait_with_output().unwrap().stdout
+    Answer(child.wait_with_output().unwrap())
+}
+
+impl Answer {
+    /// The expected text, nothing on standard error, and exit status 0: a program that crashes once it has written the text is wrong.
+    pub fn is(&self, expected: &str) -> bool {
+        let Answer(Output { status, stdout, stderr }) = self;
+        status.success() && stderr.is_empty() && stdout == expected.as_bytes()
+    }
+}
+
+impl fmt::Display for Answer {
+    fn fmt(&self, f: &mut fmt::Formatter) -> fmt::Result {
+        let Answer(Output { status, stdout, stderr }) = self;
+        write!(f, "{}", String::from_utf8_lossy(stdout))?;
+        if !stderr.is_empty() {
+            write!(f, "\non standard error:\n{}", String::from_utf8_lossy(stderr))?;
+        }
+        write!(f, "\nended with {status}")
+    }
 }
 
 impl Tally {
@@ -29,12 +55,15 @@ impl Tally {
     }
 
     pub fn count(&mut self, outcome: String) {
-        self.compared += 1;
         *self.outcomes.entry(outcome).or_default() += 1;
     }
 
-    pub fn print(&self, what: &str) {
-        println!("{what}: {} compared", self.compared);
+    pub fn answers(&self) -> u64 {
+        self.outcomes.values().sum()
+    }
+
+    pub fn print(&self, heading: &str) {
+        println!("{heading}");
         for (outcome, times) in &self.outcomes {
             println!("  {outcome}: {times}");
         }
@@ -65,7 +94,10 @@ fn listings() -> Vec<Vec<u8>> {
     let mut r = Random::new(1);
     for _ in 0..VALID {
         let table = generate::table(&mut r);
-        all.push(generate::join(&generate::lines(&mut r, &table)));
+        let listing = generate::join(&generate::lines(&mut r, &table));
+        // verdicts alone would not show that a field was misread here
+        assert_eq!(listing::read(&listing), Ok(table), "not read as the table it spells");
+        all.push(listing);
     }
     for _ in 0..DAMAGED {
         let table = generate::table(&mut r);
@@ -83,13 +115,14 @@ pub fn reports(program: &str) -> bool {
     let mut tally = Tally::new();
     for listing in listings() {
         let expected = report::text(&listing);
-        if run(program, &listing) != expected.as_bytes() {
+        if !run(program, &listing).is(&expected) {
             differs(program, &listing);
             return false;
         }
+        tally.compared += 1;
         tally.count(outcome(&expected));
     }
-    tally.print("reports");
+    tally.print(&format!("reports: {} compared", tally.compared));
     let mut wanted: Vec<String> = (1..=9).map(|k| format!("refused {k:>2}")).collect();
     wanted.extend(["accepted, all meet".into(), "accepted, with a miss".into()]);
     tally.covers(&wanted)
@@ -97,7 +130,7 @@ pub fn reports(program: &str) -> bool {
 
 /// Prints a small listing on which the two programs differ: lines are taken out as long as they still do.
 fn differs(program: &str, listing: &[u8]) {
-    let unlike = |bytes: &[u8]| run(program, bytes) != report::text(bytes).as_bytes();
+    let unlike = |bytes: &[u8]| !run(program, bytes).is(&report::text(bytes));
     let mut small = listing.to_vec();
     let mut shrunk = true;
     while shrunk {
@@ -114,5 +147,5 @@ fn differs(program: &str, listing: &[u8]) {
     }
     println!("The programs differ on this listing:\n{}", String::from_utf8_lossy(&small));
     println!("here:\n{}", report::text(&small));
-    println!("{program}:\n{}", String::from_utf8_lossy(&run(program, &small)));
+    println!("{program}:\n{}", run(program, &small));
 }

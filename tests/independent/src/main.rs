@@ -9,9 +9,11 @@
 mod analysis;
 mod cases;
 mod compare;
+mod edges;
 mod generate;
 mod listing;
 mod measure;
+mod points;
 mod probe;
 mod random;
 mod report;
@@ -48,6 +50,7 @@ fn main() -> ExitCode {
             ExitCode::SUCCESS
         }
         ["compare", report, probe] => {
+            points::hold();
             if compare::reports(report) && probe::compare(probe) && probe::longest_text(report, probe) {
                 ExitCode::SUCCESS
             } else {

@@ -5,7 +5,7 @@ use crate::analysis::{self, Verdict};
 use crate::compare::{run, Tally};
 use crate::random::Random;
 use crate::table::{Lock, Refusal, Table};
-use crate::{generate, listing, report};
+use crate::{edges, generate, listing, report};
 
 const TABLES: u64 = 600;
 const ROWS: usize = 40;
@@ -93,8 +93,9 @@ fn outcome(entry: &str, answer: &str) -> String {
 pub fn compare(program: &str) -> bool {
     let mut tally = Tally::new();
     let mut r = Random::new(2);
-    for _ in 0..TABLES {
-        let table = generate::raw_table(&mut r);
+    let mut tables = edges::tables();
+    tables.extend((0..TABLES).map(|_| generate::raw_table(&mut r)));
+    for table in tables {
         let n = table.n.min(32) as u32;
         let task = *r.pick(&[0, 1, n / 2 + 1, n, n + 1, u32::MAX]);
         let room = *r.pick(&[0, 1, n.max(1) - 1, n, n, n + 1, 32, 40]);
@@ -108,15 +109,18 @@ pub fn compare(program: &str) -> bool {
         ];
         for (name, entry, argument, expected) in asked {
             let found = run(program, &request(entry, argument, &table));
-            if found != expected.as_bytes() {
-                println!("{name} with {argument} differs on {table:?}\nhere:\n{expected}\n{program}:\n{}", String::from_utf8_lossy(&found));
+            if !found.is(&expected) {
+                println!("{name} with {argument} differs on {table:?}\nhere:\n{expected}\n{program}:\n{found}");
                 return false;
             }
             tally.count(outcome(name, &expected));
         }
+        tally.compared += 1;
     }
-    tally.print("tables");
-    let mut wanted: Vec<String> = [4, 5, 7, 8, 9].iter().map(|k| format!("check: refused {k:>2}")).collect();
+    tally.print(&format!("tables: {} compared, {} calls", tally.compared, tally.answers()));
+    // each entry point checks its table by itself
+    let refusals = |name: &'static str| [4, 5, 7, 8, 9].map(|k| format!("{name}: refused {k:>2}"));
+    let mut wanted: Vec<String> = ["check", "bound", "analyse", "write"].into_iter().flat_map(refusals).collect();
     wanted.extend(["check: fine", "bound: meets", "bound: misses", "bound: refused 10", "analyse: fine", "analyse: refused 11", "write: wrote", "write: refused 11"].map(String::from));
     tally.covers(&wanted)
 }
@@ -140,9 +144,15 @@ fn longest() -> Table {
 pub fn longest_text(report: &str, program: &str) -> bool {
     let table = longest();
     let text = listing::write(&table);
-    let same = [text.len(), text.len() - 1].iter().all(|&room| run(program, &request(4, room as u32, &table)) == output(&table, room).as_bytes())
-        && listing::read(text.as_bytes()) == Ok(table)
-        && run(report, text.as_bytes()) == report::quick(text.as_bytes()).as_bytes();
-    println!("the longest text, {} bytes, {}", text.len(), if same { "is written and read back" } else { "differs" });
-    same
+    assert_eq!(listing::read(text.as_bytes()).as_ref(), Ok(&table), "the longest text is not read back here");
+    let written = |room: usize| (run(program, &request(4, room as u32, &table)), output(&table, room));
+    let read = (run(report, text.as_bytes()), report::text(text.as_bytes()));
+    for (found, expected) in [written(text.len()), written(text.len() - 1), read] {
+        if !found.is(&expected) {
+            println!("the longest text differs\nhere:\n{expected}\nthere:\n{found}");
+            return false;
+        }
+    }
+    println!("the longest text, {} bytes, is written and read back", text.len());
+    true
 }
