@@ -18,7 +18,7 @@ use Rattle.theory.proofs.VerdictLaws.{Rises, climb, meets-by, misses-by}
 use Rattle.theory.proofs.DemandLaws.{Runs, demand-start, demand-rises}
 use Rattle.theory.proofs.WorkLaws.{workload-rises}
 use Rattle.analysis.specs.declared.Answer.the-variants.{Known}
-use Rattle.analysis.specs.Tables.{viewOf, verdictIn}
+use Rattle.theory.specs.Tables.{viewOf, verdictIn}
 use Rattle.analysis.specs.Answers.{boundFault, boundOf}
 
 -- an accepted table has a processor, and no period of 0

@@ -17,7 +17,7 @@ use Rattle.theory.specs.View.{level}
 use Rattle.analysis.specs.declared.Answer.{Answer}
 use Rattle.analysis.specs.declared.Answer.the-variants.{Known, Unknown}
 use Rattle.analysis.specs.declared.Record.{Record}
-use Rattle.analysis.specs.Tables.{verdictIn}
+use Rattle.theory.specs.Tables.{verdictIn}
 
 -- ---- one task
 

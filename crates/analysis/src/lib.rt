@@ -13,8 +13,6 @@ use table::Refusal;
 use table::Table;
 use theory::Verdict;
 
-mod shares;
-
 // The verdict on a task that was asked about, or why there is none.
 pub enum Answer {
     Known(Verdict),

@@ -14,7 +14,7 @@ use Rattle.theory.specs.declared.Verdict.{Verdict}
 use Rattle.theory.specs.declared.Verdict.the-variants.{Meets, Misses}
 use Rattle.theory.specs.View.{level}
 use Rattle.listing.specs.Read.{readListing}
-use Rattle.analysis.specs.Tables.{verdictIn}
+use Rattle.theory.specs.Tables.{verdictIn}
 use Rattle.analysis.specs.Answers.{analysisFault}
 
 -- "Refused, it prints one line, as `refused 9 line 2`: the number, then the place."

@@ -20,6 +20,7 @@ use Rattle.writing.proofs.Determined.{write-determined}
 use Rattle.meaning.proofs.Refused.{listing-empty}
 use Rattle.meaning.proofs.ListingRefusals.{refused-as-called}
 use Rattle.rounds.proofs.Determined.{verdict-of-determined}
+use Rattle.shares.proofs.Determined.{shares-of-determined}
 use Rattle.analysis.specs.Answers.{boundFault, analysisFault, recordCount, analysed}
 use Rattle.analysis.proofs.Determined.{bound-determined, analyse-all-determined, analyse-determined}
 use Rattle.promises.specs.Demand1.{Entries, Determines, Keeps, FirstDecides, Demand1}
@@ -62,6 +63,7 @@ determines =
       write = write-determined;
       bound = bound-determined;
       verdict-of = verdict-of-determined;
+      shares-of = shares-of-determined;
       analyse-all = analyse-all-determined;
       analyse = analyse-determined;
     }

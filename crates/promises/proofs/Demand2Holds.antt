@@ -16,7 +16,7 @@ use Rattle.theory.specs.Verdict.{Right}
 use Rattle.theory.proofs.VerdictLaws.{verdict-right, verdict-is}
 use Rattle.theory.proofs.DemandLaws.{demand-start}
 use Rattle.analysis.specs.declared.Answer.the-variants.{Known}
-use Rattle.analysis.specs.Tables.{viewOf, verdictIn}
+use Rattle.theory.specs.Tables.{viewOf, verdictIn}
 use Rattle.analysis.specs.declared.Record.{Record}
 use Rattle.analysis.specs.Answers.{boundOf, analysisFault, recordOf}
 use Rattle.analysis.proofs.ByIterates.{bound-known}

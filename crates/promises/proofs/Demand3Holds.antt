@@ -17,7 +17,7 @@ use Rattle.theory.specs.Demand.{sharedCT, otherCT, allCT, highCT, DB, S, O, F, 
 use Rattle.theory.proofs.VerdictLaws.{climb}
 use Rattle.theory.proofs.DemandLaws.{harder-keeps}
 use Rattle.analysis.specs.declared.Answer.the-variants.{Known}
-use Rattle.analysis.specs.Tables.{viewOf, verdictIn}
+use Rattle.theory.specs.Tables.{viewOf, verdictIn}
 use Rattle.analysis.specs.Answers.{boundOf}
 use Rattle.analysis.proofs.ByIterates.{fine-runs, bound-known, iterate-meets, iterate-misses}
 use Rattle.promises.specs.Demand3.{MadeHarder, Demand3, caseA, NotEmpty}

@@ -23,7 +23,7 @@ use Rattle.theory.specs.Work.{workload, jobs, ceilDiv}
 use Rattle.theory.specs.View.{level, ceiling}
 use Rattle.theory.specs.Demand.{sharedCT, otherCT, allCT, highCT, DB, S, O, F, L, demandWith}
 use Rattle.theory.proofs.VerdictLaws.{climb}
-use Rattle.analysis.specs.Tables.{verdictIn}
+use Rattle.theory.specs.Tables.{verdictIn}
 use Rattle.analysis.proofs.ByIterates.{iterate-meets, iterate-misses}
 use Rattle.page.specs.Report.{verdictText, rowText, pageText, reportText}
 use Rattle.page.proofs.Reports.{report-accepted}

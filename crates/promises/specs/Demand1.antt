@@ -36,7 +36,6 @@ use Rattle.listing.specs.Read.{readListing}
 use Rattle.meaning.specs.Refusals.{RefusedAsCalled}
 use Rattle.writing.specs.Write.{textOf, writeFault, writeAnswer, written}
 use Rattle.analysis.specs.declared.Record.{Record}
-use Rattle.rounds.specs.Outcome.{outcomeOf}
 use Rattle.analysis.specs.Answers.{boundFault, boundOf, analysisFault, analysed, FillsRow}
 use Rattle.table.proofs.Fault.number.Reads as number
 use Rattle.table.proofs.Table.empty.Reads as empty
@@ -59,6 +58,7 @@ use Rattle.line.proofs.line_of.Reads as line-of
 use Rattle.listing.proofs.read.Reads as read
 use Rattle.writing.proofs.write.Reads as write
 use Rattle.rounds.proofs.verdict_of.Reads as verdict-of
+use Rattle.shares.proofs.shares_of.Reads as shares-of
 use Rattle.analysis.proofs.analyse as analyse
 use Rattle.analysis.proofs.analyse_all.Reads as analyse-all
 use Rattle.analysis.proofs.bound.Reads as bound
@@ -105,6 +105,7 @@ pub record Determines : Type 0 where
   pub write : (κs : Lfts 1) → DeterminedWith (λ x. x .1 .0 .now) (write.Learnt κs)
   pub bound : Determined (bound.Learnt tt)
   pub verdict-of : Determined (verdict-of.Learnt tt)
+  pub shares-of : Determined (shares-of.Learnt tt)
   pub analyse-all : Determined (analyse-all.Learnt tt)
   pub analyse : (t : Table) (row : List Record) (r s : Checked) (x y : List Record)
       → FillsRow t row r x → FillsRow t row s y → (r ≡ s) × (x ≡ y)

@@ -12,7 +12,7 @@ use Rattle.theory.specs.Demand.{demandOf}
 use Rattle.theory.specs.Verdict.{Least, None}
 use Rattle.analysis.specs.declared.Answer.the-variants.{Known}
 use Rattle.analysis.specs.declared.Record.{Record}
-use Rattle.analysis.specs.Tables.{viewOf}
+use Rattle.theory.specs.Tables.{viewOf}
 use Rattle.analysis.specs.Answers.{boundOf, analysisFault, analysed}
 use Rattle.basics.specs.Exactly.{_exactly-if_}
 use Rattle.meaning.specs.Meaning.{Correct, Complete, PassesCheck}

@@ -15,7 +15,7 @@ use Rattle.theory.specs.declared.Verdict.the-variants.{Meets, Misses}
 use Rattle.theory.specs.View.{level}
 use Rattle.theory.specs.Harder.{Harder}
 use Rattle.analysis.specs.declared.Answer.the-variants.{Known}
-use Rattle.analysis.specs.Tables.{viewOf}
+use Rattle.theory.specs.Tables.{viewOf}
 use Rattle.analysis.specs.Answers.{boundOf}
 
 -- two accepted tables, the second being the first made harder (`Harder` names the rules one by one)

@@ -63,6 +63,16 @@ head start base cpus n D h =
 pub head-tasks : (s : Shares) (D : ℕ) → headFits (s .start) (s .base) (s .cpus) (s .n) D ≡ true → s .n ≤ maxTasks
 head-tasks s D h = head _ _ _ _ D h .tasks-most
 
+-- the test by its two parts
+module _ (s : Shares) (D : ℕ) where
+  pub sound-head : headFits (s .start) (s .base) (s .cpus) (s .n) D ≡ false → isSound s D ≡ false
+  unfolding isSound
+  sound-head e = rw e
+
+  pub sound-all : {b : Bool} → headFits (s .start) (s .base) (s .cpus) (s .n) D ≡ true → allTo (s .n) (λ l. shareFits (shareAt s l)) ≡ b → isSound s D ≡ b
+  unfolding isSound
+  sound-all e f = rw e f
+
 pub test-sound : (s : Shares) (D : ℕ) → isSound s D ≡ true → SoundShares s D
 unfolding isSound
 test-sound s D e =

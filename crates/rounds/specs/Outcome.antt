@@ -12,9 +12,12 @@ use Rattle.rounds.specs.declared.Outcome.{Outcome}
 use Rattle.rounds.specs.declared.Outcome.the-variants.{Of, Unsound}
 use Rattle.rounds.specs.Shares.{shareAt, sharesDemand}
 
--- the most that C + DB can be: each of the resources asked for as often as may be, and waited for as long
+-- the most that DB can be, each of the resources asked for as often as may be and waited for as long; and C + DB
+abbrev pub maxWait : ℕ
+maxWait = maxResources * (maxCount * maxTime)
+
 abbrev pub maxBase : ℕ
-maxBase = maxTime + maxResources * (maxCount * maxTime)
+maxBase = maxTime + maxWait
 
 -- T is a time, D is at most T, and no units are more than D
 unfoldable pub shareFits : Share → Bool

@@ -3,11 +3,10 @@ ghost use mathlib.Core.Bool.{_&&_};
 ghost use mathlib.Core.Path.{_≡_};
 ghost use Prim.Native.Nat.{_/_, _≤_, min};
 ghost use Rattle.basics.specs.Choice.{within};
-ghost use Rattle.basics.specs.Over.{allTo};
-ghost use Rattle.table.specs.Limits.{maxTasks, maxTime};
+ghost use Rattle.table.specs.Limits.{maxTime};
 ghost use Rattle.theory.specs.Verdict.{verdictOf};
-ghost use Rattle.rounds.specs.Shares.{shareAt, sharesDemand};
-ghost use Rattle.rounds.specs.Outcome.{shareFits, headFits, outcomeOf, Sound, SoundRow, SoundShares};
+ghost use Rattle.rounds.specs.Shares.{sharesDemand};
+ghost use Rattle.rounds.specs.Outcome.{shareFits, headFits, isSound, outcomeOf, Sound, SoundRow, SoundShares};
 ghost use Rattle.rounds.specs.Parts.{maxSpan, GoodPart, PartIs, LoadIs, WholesAre, DividedAre};
 use table::Table;
 use theory::Verdict;
@@ -16,9 +15,9 @@ use theory::Verdict;
 pub struct Share {
     pub period: u32,
     pub deadline: u32,
-    pub whole: u32, // S
-    pub one: u32, // O, or L
-    pub two: u32, // F
+    pub whole: u64, // S
+    pub one: u64, // O, or L
+    pub two: u64, // F
 }
 
 // C, C + DB, m, and a share for each of the n tasks.
@@ -85,7 +84,7 @@ fn least(a: u32, b: u32) -> u32
 }
 
 // 1 for any units, 0 for none.
-fn some(units: u32) -> usize
+fn some(units: u64) -> usize
     ensures { λ r. ⌜ r ≡ min 1 units ⌝ }
 {
     if units == 0 { 0 } else { 1 }
@@ -94,11 +93,12 @@ fn some(units: u32) -> usize
 // The multiplier is 2^38 / T + 1 for a short period and 2^49 / T + 1 for a long one: a product with it, shifted, is the quotient for
 // every a that comes up, and fits 64 bits. That depends on the longest time: a is at most twice that, and 2 × 10^7 × 8,192 < 2^38,
 // 2 × 10^7 × 10^7 < 2^49, 2 × 10^7 × (2^38 + 1) < 2^64. A longer one asks for other powers.
-fn part_of(period: u32, deadline: u32, units: u32) -> Part
-    requires { ⌜ Sound period deadline units ⌝ }
-    ensures { λ r. ⌜ PartIs period deadline units r ⌝ }
+fn part_of(period: u32, deadline: u32, counted: u64) -> Part
+    requires { ⌜ Sound period deadline counted ⌝ }
+    ensures { λ r. ⌜ PartIs period deadline counted r ⌝ }
 {
     let p = wide(period);
+    let units = counted as u32;
     let off = deadline - units;
     if period < 8_192 {
         let mul = 274_877_906_944 / p + 1;
@@ -229,11 +229,12 @@ fn between(low: u64, high: u64, x: u64) -> bool
 fn share_fits(e: Share) -> bool
     ensures { λ r. ⌜ r ≡ shareFits e ⌝ }
 {
+    let most = wide(e.deadline);
     let period = rules::in_range(e.period, Table::MAX_TIME);
     let deadline = both(period, e.deadline <= e.period);
-    let whole = both(deadline, e.whole <= e.deadline);
-    let one = both(whole, e.one <= e.deadline);
-    both(one, e.two <= e.deadline)
+    let whole = both(deadline, e.whole <= most);
+    let one = both(whole, e.one <= most);
+    both(one, e.two <= most)
 }
 
 // Whether C, C + DB, m and n can be those of an accepted table and a task with this deadline.
@@ -247,10 +248,13 @@ fn head_fits(start: u32, base: u64, cpus: u64, n: usize, deadline: u32) -> bool
     both(fewer, between(first, wide(Table::MAX_TIME), wide(deadline)))
 }
 
-fn shares_fit(s: Shares) -> bool
-    requires { ⌜ s .n ≤ maxTasks ⌝ }
-    ensures { λ r. ⌜ r ≡ allTo (s .n) (λ l. shareFits (shareAt s l)) ⌝ }
+// Whether shares can be those of a task of an accepted table, with this deadline.
+fn is_sound(s: Shares, deadline: u32) -> bool
+    ensures { λ r. ⌜ r ≡ isSound s deadline ⌝ }
 {
+    if !head_fits(s.start, s.base, s.cpus, s.n, deadline) {
+        return false;
+    }
     let n = s.n;
     let mut k: usize = 0;
     while k < n {
@@ -267,10 +271,7 @@ fn shares_fit(s: Shares) -> bool
 pub fn verdict_of(s: Shares, deadline: u32) -> Outcome
     ensures { λ r. ⌜ r ≡ outcomeOf s deadline ⌝ }
 {
-    if !head_fits(s.start, s.base, s.cpus, s.n, deadline) {
-        return Outcome::Unsound;
-    }
-    if !shares_fit(s) {
+    if !is_sound(s, deadline) {
         return Outcome::Unsound;
     }
     Outcome::Of(iterate(s, deadline))

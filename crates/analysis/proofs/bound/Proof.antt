@@ -5,7 +5,7 @@ use native.Mathlib.Omega.{arith}
 use Rattle.basics.proofs.ChoiceLaws.{within-in, within-low, within-high}
 use Rattle.analysis.specs.declared.Record.{Record}
 use Rattle.analysis.specs.declared.Answer.the-variants.{Known}
-use Rattle.analysis.specs.Tables.{verdictIn}
+use Rattle.theory.specs.Tables.{verdictIn}
 use Rattle.analysis.specs.Answers.{boundFault, boundOf, recordOf}
 use borrow.Author.Needs.{needs}
 use Rattle.analysis.proofs.bound.Statement.{statement}

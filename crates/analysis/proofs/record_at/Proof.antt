@@ -8,12 +8,14 @@ use Rattle.table.specs.Accepted.{Accepted}
 use Rattle.table.proofs.Acceptance.{fine-accepted}
 use Rattle.theory.specs.View.{level}
 use Rattle.theory.specs.Verdict.{verdictOf}
+use Rattle.rounds.specs.declared.Shares.{Shares}
 use Rattle.rounds.specs.declared.Outcome.the-variants.{Of}
 use Rattle.rounds.specs.Outcome.{outcomeOf}
 use Rattle.rounds.proofs.SoundLaws.{sound-test}
-use Rattle.analysis.specs.Tables.{viewOf, verdictIn}
+use Rattle.theory.specs.Tables.{viewOf, verdictIn}
 use Rattle.analysis.specs.Answers.{recordOf}
-use Rattle.analysis.proofs.Reduce.{shares-demand}
+use Rattle.shares.proofs.SoundLaws.{reduced}
+use Rattle.shares.proofs.Reduce.{shares-demand}
 use Rattle.analysis.proofs.record_at.Statement.{statement}
 use Rattle.analysis.proofs.record_at.Tie as tie
 
@@ -31,10 +33,12 @@ outcome : (c : tie.After-verdict-of) → let b = c .before .before .before in c 
 unfolding verdictIn outcomeOf
 outcome c =
     let b = c .before .before .before in
-    let v = viewOf (b .args .t1) in
+    let t = b .args .t1 in
     let i = b .args .i in
-    let r = c .before .shares-of .ensures in
-    c .verdict-of .ensures ∙ rw (sound-test _ _ (r .sound)) (ap (λ (f : ℕ → ℕ). Of (verdictOf f (v .D (level i)))) (λ j t. shares-demand v i _ (r .are) t j))
+    let r = reduced t i (b .pre .0) (b .pre .1) in
+    c .verdict-of .ensures
+    ∙ ap (λ (s : Shares). outcomeOf s (viewOf t .D (level i))) (c .before .shares-of .ensures)
+    ∙ rw (sound-test _ _ (r .sound)) (ap (λ (f : ℕ → ℕ). Of (verdictOf f (viewOf t .D (level i)))) (λ j u. shares-demand (viewOf t) i _ (r .are) u j))
 
 -- they are sound, so another outcome does not come up
 returns : tie.Need-returns

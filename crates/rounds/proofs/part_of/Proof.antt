@@ -25,4 +25,4 @@ returns-2 c =
 pub part-of-spec : {M : Type 1} → statement M
 part-of-spec =
     tie.close
-    (tie.spec (λ c κs. search needs) (λ c. search needs) (λ c. search needs) add-mul returns (λ c. search needs) add-mul-2 returns-2)
+    (tie.spec (λ c κs. search needs) (λ c. search needs) (λ c. search needs) (λ c. search needs) add-mul returns (λ c. search needs) add-mul-2 returns-2)

@@ -1,45 +1,25 @@
--- `rounds::verdict_of` meets its contract: where both tests hold, the shares are sound. Assumes nothing.
-use mathlib.Core.Bool.{true}
-use mathlib.Core.Path.{_≡_, ap}
+-- `rounds::verdict_of` meets its contract. Assumes nothing.
+use mathlib.Core.Path.{ap}
 use borrow.Author.Needs.{needs}
-use borrow.Author.Tests.{leb-true}
-use Rattle.basics.proofs.ChoiceLaws.{stops, passes, and-true}
+use Rattle.basics.proofs.ChoiceLaws.{stops, passes}
 use Rattle.rounds.specs.declared.Outcome.the-variants.{Of}
-use Rattle.rounds.specs.Outcome.{headFits, isSound, outcomeOf}
-use Rattle.rounds.proofs.SoundLaws.{head-tasks, test-sound}
+use Rattle.rounds.specs.Outcome.{outcomeOf}
+use Rattle.rounds.proofs.SoundLaws.{test-sound}
 use Rattle.rounds.proofs.verdict_of.Statement.{statement}
 use Rattle.rounds.proofs.verdict_of.Tie as tie
 
 returns : tie.Need-returns
-unfolding outcomeOf isSound
-returns c = rw (stops (c .before .head-fits .ensures) (c .if1 .taken))
-
-shares-fit-requires : tie.Need-shares-fit-requires
-shares-fit-requires c κs =
-    let a = c .before .before .args in
-    head-tasks (a .s) (a .deadline) (passes (c .before .head-fits .ensures) (c .if1 .left))
-
-returns-2 : tie.Need-returns-2
-unfolding outcomeOf isSound
-returns-2 c =
-    let b = c .before .before in
-    rw (passes (b .before .head-fits .ensures) (b .if1 .left), stops (c .before .shares-fit .ensures) (c .if2 .taken))
-
--- both tests hold
-sound : (c : tie.Else2) → let a = c .before .before .before .before .args in isSound (a .s) (a .deadline) ≡ true
-unfolding isSound
-sound c =
-    let b = c .before .before in
-    rw (passes (b .before .head-fits .ensures) (b .if1 .left), passes (c .before .shares-fit .ensures) (c .if2 .left))
+unfolding outcomeOf
+returns c = rw (stops (c .before .is-sound .ensures) (c .if1 .taken))
 
 iterate-requires : tie.Need-iterate-requires
-iterate-requires c κs = test-sound _ _ (sound c)
+iterate-requires c κs = test-sound _ _ (passes (c .before .is-sound .ensures) (c .if1 .left))
 
-returns-3 : tie.Need-returns-3
+returns-2 : tie.Need-returns-2
 unfolding outcomeOf
-returns-3 c = rw (sound (c .before)) (ap Of (c .iterate .ensures))
+returns-2 c =
+    let b = c .before in
+    rw (passes (b .before .is-sound .ensures) (b .if1 .left)) (ap Of (c .iterate .ensures))
 
 pub verdict-of-spec : {M : Type 1} → statement M
-verdict-of-spec =
-    tie.close
-    (tie.spec (λ c κs. search needs) returns shares-fit-requires returns-2 iterate-requires returns-3)
+verdict-of-spec = tie.close (tie.spec (λ c κs. search needs) returns iterate-requires returns-2)

@@ -1,0 +1,25 @@
+-- A table as the analysis reads it, and the verdict on a task of it.
+use Prim.Native.Nat.{pred}
+use Rattle.table.specs.declared.Level.{Level}
+use Rattle.table.specs.declared.Table.{Table}
+use Rattle.table.specs.At.{taskAt, pairAt}
+use Rattle.theory.specs.declared.Verdict.{Verdict}
+use Rattle.theory.specs.View.{View}
+use Rattle.theory.specs.Demand.{demandOf}
+use Rattle.theory.specs.Verdict.{verdictOf}
+
+abbrev pub viewOf : Table → View
+viewOf t =
+    record {
+      cpus = t .cpus;
+      n = t .n;
+      T = λ i. taskAt t (pred (i .0)) .period;
+      C = λ i. taskAt t (pred (i .0)) .run;
+      D = λ i. taskAt t (pred (i .0)) .deadline;
+      N = λ i k. pairAt t (pred (i .0)) (pred (k .0)) .requests;
+      c = λ i k. pairAt t (pred (i .0)) (pred (k .0)) .longest;
+      CT = λ i k. pairAt t (pred (i .0)) (pred (k .0)) .total;
+    }
+
+unfoldable pub verdictIn : Table → Level → Verdict
+verdictIn t i = verdictOf (demandOf (viewOf t) i) (viewOf t .D i)
