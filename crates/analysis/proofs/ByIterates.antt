@@ -1,6 +1,6 @@
 -- The verdict on a task of an accepted table by computing a few iterates from its C, and the answer of `bound` from the verdict.
 -- Assumes nothing.
-use Prim.Native.Nat.{ℕ, suc, _≤_, _<_}
+use Prim.Native.Nat.{ℕ, suc, _<_}
 use mathlib.Core.Path.{_≡_}
 use native.Mathlib.Omega.{arith}
 use lib.Dec.{T, leb, ltb}
@@ -9,7 +9,6 @@ use Rattle.table.specs.declared.Table.{Table}
 use Rattle.table.specs.declared.Checked.the-variants.{Fine}
 use Rattle.table.specs.Rules.{tableFault}
 use Rattle.table.proofs.Acceptance.{fine-accepted}
-use Rattle.theory.specs.declared.Verdict.{Verdict}
 use Rattle.theory.specs.declared.Verdict.the-variants.{Meets, Misses}
 use Rattle.theory.specs.Work.{workload}
 use Rattle.theory.specs.View.{level}

@@ -105,7 +105,7 @@ fn is_form(line: &[u8], n: usize, word: &[u8], k: usize) -> bool
     same_field(line, word)
 }
 
-// The time at a place of the line, with the place where the next field begins.
+// The time at a place of the line, with the place where the next field begins. No field begins past 64: the fields before it are short.
 fn time_at(line: &[u8], at: usize) -> Field
     requires { ⌜ at ≤ 64 ⌝ }
     ensures { λ r. ⌜ r ≡ placed at (timeField (drop at (now (line .entry)))) ⌝ }
@@ -119,7 +119,7 @@ fn time_at(line: &[u8], at: usize) -> Field
     Field::Value(v, at + width + 1)
 }
 
-// The count at a place of the line, with the place where the next field begins.
+// The count at a place of the line, likewise.
 fn count_at(line: &[u8], at: usize) -> Field
     requires { ⌜ at ≤ 64 ⌝ }
     ensures { λ r. ⌜ r ≡ placed at (countField (drop at (now (line .entry)))) ⌝ }

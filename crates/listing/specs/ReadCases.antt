@@ -11,7 +11,7 @@ use Rattle.table.specs.declared.Fault.the-variants.{TooLong, BadForm, BadField,
 use Rattle.table.specs.declared.Checked.{Checked}
 use Rattle.table.specs.declared.Checked.the-variants.{Fine}
 use Rattle.table.specs.Empty.{unusedPair, emptyTask}
-use Rattle.table.specs.At.{pair, task}
+use Rattle.table.specs.At.{aPair, aTask}
 use Rattle.table.specs.Faults.{at}
 use Rattle.listing.specs.Read.{readListing, newTask, accepted, refused}
 
@@ -119,9 +119,9 @@ tableA =
       cpus = 2;
       n = 3;
       tasks =
-          task 10_000 2_500 10_000 (pair 1 500 500 ∷ replicate 15 unusedPair)
+          aTask 10_000 2_500 10_000 (aPair 1 500 500 ∷ replicate 15 unusedPair)
           ∷ newTask 20_000 4_000 15_000
-          ∷ task 30_000 6_000 30_000 (pair 2 750 1_500 ∷ replicate 15 unusedPair)
+          ∷ aTask 30_000 6_000 30_000 (aPair 2 750 1_500 ∷ replicate 15 unusedPair)
           ∷ replicate 29 emptyTask;
     }
 

@@ -25,7 +25,7 @@ use Rattle.listing.specs.Lines.{lines, endsInLF}
 use Rattle.listing.specs.Read.{readEnd, readLines, readListing}
 use Rattle.meaning.specs.Refusals.{pastTo, saidAt, Say, EndsInLF, CallsFor, too-long, at-line, not-ended, no-task, RefusedAsCalled}
 use Rattle.meaning.proofs.LineRefusals.{line-agrees}
-use Rattle.meaning.proofs.ReadTo.{ended, ended-ends, ends-ended, none-zero, zero-none, Stops, stops, read-to}
+use Rattle.meaning.proofs.ReadTo.{ended, ended-ends, ends-ended, none-zero, zero-none, Stops, first-stop, read-to}
 
 -- ---- what is answered at a line, and at the end
 
@@ -86,7 +86,7 @@ end-called s l h = go _ refl _ refl
     go true e true f = inr (at-end s l Fine h (λ t. rw (e, f)))
 
 all-called : (s : List ℕ) → Called s ⊎ (readListing s .answer ≡ Fine)
-all-called s = go (decLt maxListing (length s)) (stops s (length (lines s)))
+all-called s = go (decLt maxListing (length s)) (first-stop s (length (lines s)))
   where
     go : Dec (maxListing < length s) → Stops s (length (lines s)) ⊎ Say s (length (lines s)) → Called s ⊎ (readListing s .answer ≡ Fine)
     go (yes l) x = inl (1, 0, too-long l)

@@ -100,9 +100,9 @@ said-not (Not r) = inl (r, refl)
 abbrev pub Stops : List ℕ → ℕ → Type 0
 Stops s k = (j : ℕ) × (j < k) × Say s j × (r : Refusal) × (saidAt s j ≡ Not r)
 
-pub stops : (s : List ℕ) (k : ℕ) → Stops s k ⊎ Say s k
-stops s zero = inr (λ j l. absurd (omega arith))
-stops s (suc k) = go (stops s k) (said-not (saidAt s k))
+pub first-stop : (s : List ℕ) (k : ℕ) → Stops s k ⊎ Say s k
+first-stop s zero = inr (λ j l. absurd (omega arith))
+first-stop s (suc k) = go (first-stop s k) (said-not (saidAt s k))
   where
     go : Stops s k ⊎ Say s k → ((r : Refusal) × (saidAt s k ≡ Not r)) ⊎ ((r : Refusal) → saidAt s k ≡ Not r → ⊥) → Stops s (suc k) ⊎ Say s (suc k)
     go (inl a) x = inl (a .0, omega (arith, a .1), a .2, a .3, a .4)

@@ -1,7 +1,6 @@
 -- The reading of an accepted listing said a second way, without reading it: the figures that a listing's lines state, the rules that
 -- they obey, and the table that holds them.
 use Prim.Native.Nat.{ℕ, zero, suc, _+_, _≤_, _<_}
-use mathlib.Core.Path.{_≡_}
 use mathlib.Core.List.{List, [], _∷_, _++_}
 use lib.ListN.{length}
 use lib.Dec.{eqb}

@@ -1,6 +1,6 @@
 -- Document 01, "Refusals by number", of a listing, said without its chains: which number it is refused with, and at which place. `line` and
 -- `listing` say it by chains that the first fault ends; here the rules of a line are a list in the paper's order, each case of a listing stands by
--- itself, and `RefusedAsCalled` says that they agree. The tests of the rules, and what the lines before leave, are those of `table` and `line`.
+-- itself, and `RefusedAsCalled` says that they agree. The tests of the rules, and what the lines before leave, are those of `table`, `line` and `listing`.
 use Prim.Native.Nat.{ℕ, zero, suc, _+_, _≤_, _<_}
 use mathlib.Core.Path.{_≡_}
 use mathlib.Core.Bool.{Bool, true, false, _&&_}

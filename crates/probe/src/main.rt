@@ -163,7 +163,7 @@ fn say_rows(l: Lent) {
 
 // Entry point 3: `analyse`, with a row of so many records.
 fn analyse(t: Table, room: u32) {
-    if 40 < room {
+    if ROWS < room as usize {
         say(b"bad row\n");
         return;
     }
@@ -199,7 +199,7 @@ fn write_into(t: Table, out: &mut [u8], room: usize)
 
 // Entry point 4: `write`, with an output of so many bytes.
 fn write(t: Table, room: u32) {
-    if 20_000 < room {
+    if OUTPUT < room as usize {
         say(b"bad output\n");
         return;
     }

@@ -1,6 +1,6 @@
 -- Demand 2 holds.
 -- Assumes nothing.
-use Prim.Native.Nat.{ℕ, _≤_, _<_}
+use Prim.Native.Nat.{ℕ, _<_}
 use mathlib.Core.Path.{_≡_, sym, ap, _∙_}
 use mathlib.Core.List.{List}
 use lib.ListN.{length}
@@ -23,7 +23,7 @@ use Rattle.analysis.proofs.ByIterates.{bound-known}
 use Rattle.analysis.proofs.RowLaws.{fits, count-fine, row-record, row-past, row-long}
 use Rattle.meaning.proofs.Meaning.{correct, complete, passes-check}
 use Rattle.meaning.proofs.Back.{text-fits, reads-back, cleared-same, rewrites, same-text}
-use Rattle.promises.specs.Demand2.{demandIn, runIn, deadlineIn, RightVerdict, RightRow, Demand2}
+use Rattle.promises.specs.Demand2.{demandIn, deadlineIn, RightVerdict, RightRow, Demand2}
 
 module _ (t : Table) (i : ℕ) (fine : tableFault t ≡ Fine) (h : i < t .n) where
   -- what `bound` answers is the verdict, and the verdict is right

@@ -1,9 +1,9 @@
 -- The paper's points marked P hold: a listing's report by reading it and computing a few iterates of each task, the rest by computing.
 -- Assumes nothing.
-use Prim.Native.Nat.{ℕ, suc, _<_}
+use Prim.Native.Nat.{_<_}
 use Prim.Native.String.{String}
 use mathlib.Core.Path.{_≡_, refl, _∙_}
-use mathlib.Core.List.{List, _++_}
+use mathlib.Core.List.{_++_}
 use lib.Dec.{lit<}
 use Rattle.basics.specs.Over.{sumTo, maxTo, firstTo, joinTo}
 use Rattle.basics.specs.Text.{bytes}

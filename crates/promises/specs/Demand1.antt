@@ -119,7 +119,7 @@ pub record Keeps : Type 0 where
   -- "a refused reading gives no table"
   pub table : (s : List ℕ) (r : Refusal) → readListing s .answer ≡ Refused r → readListing s .table ≡ emptyTable
 
--- ---- a refusal is given, with its number and place, exactly when its rule is the first that fails (`Refuses c k p`: the check c refuses with k p a place)
+-- ---- a refusal is given, with its number and place, exactly when its rule is the first that fails (`Refuses c k p`: the check c refuses with the number k, at the place p)
 
 pub record FirstDecides : Type 0 where
   -- no two refusals have one number

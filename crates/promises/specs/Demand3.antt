@@ -8,8 +8,9 @@ use Rattle.table.specs.declared.Pair.{Pair}
 use Rattle.table.specs.declared.Task.{Task}
 use Rattle.table.specs.declared.Table.{Table}
 use Rattle.table.specs.declared.Checked.the-variants.{Fine}
+use Rattle.table.specs.Limits.{maxTasks, maxResources}
 use Rattle.table.specs.Empty.{unusedPair, emptyTask}
-use Rattle.table.specs.At.{pair, task}
+use Rattle.table.specs.At.{aPair, aTask}
 use Rattle.table.specs.Rules.{tableFault}
 use Rattle.theory.specs.declared.Verdict.the-variants.{Meets, Misses}
 use Rattle.theory.specs.View.{level}
@@ -34,7 +35,7 @@ Demand3 =
 
 -- a task that uses at most the first resource
 abbrev using1 : ℕ → ℕ → ℕ → Pair → Task
-using1 T C D p = task T C D (p ∷ replicate 15 unusedPair)
+using1 T C D p = aTask T C D (p ∷ replicate (maxResources - 1) unusedPair)
 
 -- case A, with m, the N of its first task, the T of its second, the longest request of its third, and the tasks below
 unfoldable pub caseA : ℕ → ℕ → ℕ → ℕ → List Task → Table
@@ -43,10 +44,10 @@ caseA m N T c below =
       cpus = m;
       n = 3 + length below;
       tasks =
-          using1 10_000 2_500 10_000 (pair N 500 500)
+          using1 10_000 2_500 10_000 (aPair N 500 500)
           ∷ using1 T 4_000 15_000 unusedPair
-          ∷ using1 30_000 6_000 30_000 (pair 2 c 1_500)
-          ∷ (below ++ replicate (29 - length below) emptyTask);
+          ∷ using1 30_000 6_000 30_000 (aPair 2 c 1_500)
+          ∷ (below ++ replicate (maxTasks - 3 - length below) emptyTask);
     }
 
 -- a made harder is b, and the bound of task i goes from u to w
@@ -66,4 +67,4 @@ pub record NotEmpty : Type 0 where
   -- and of task 3, which is below the m-th: fewer processors, a shorter period above it, a task added at the bottom
   pub fewer-third : Grows (caseA 2 1 20_000 750 []) (caseA 1 1 20_000 750 []) (level 2) 14_500 22_000
   pub shorter : Grows (caseA 1 1 20_000 750 []) (caseA 1 1 15_000 750 []) (level 2) 22_000 28_000
-  pub added : Grows (caseA 2 1 20_000 750 []) (caseA 2 1 20_000 750 (using1 40_000 3_000 40_000 (pair 1 900 900) ∷ [])) (level 2) 14_500 17_200
+  pub added : Grows (caseA 2 1 20_000 750 []) (caseA 2 1 20_000 750 (using1 40_000 3_000 40_000 (aPair 1 900 900) ∷ [])) (level 2) 14_500 17_200

@@ -1,8 +1,9 @@
 -- What Footplatter guarantees. Read these files, and the definitions that they cite, and nothing else.
---   Demand1   every input gets an answer, the contract determines it, and a refusal changes nothing
+--   Demand1   every input gets an answer, the contract determines it; a refusal is given, with its number and place, exactly when the paper calls for it, and changes nothing
 --   Demand2   the bound is the right one, a table holds what its listing states, and what is written reads back
 --   Demand3   a table made harder never gives a smaller bound
 --   Points    the paper's points marked P
+--   Words     what these are made of
 pub mod Words
 pub mod Demand1
 pub mod Demand2

@@ -1,7 +1,6 @@
 -- What the writers write (document 01, "The listing"): "no leading zeros in the whole part (one `0` if it is zero), no trailing zeros in
 -- the fraction, and no point if the fraction is zero".
 use Prim.Native.Nat.{ℕ, zero, suc, _/_, _%_, _+_}
-use mathlib.Core.Bool.{Bool}
 use mathlib.Core.List.{List, [], _∷_, _++_}
 use lib.ListN.{length}
 use lib.Dec.{ltb, leb, eqb}

@@ -34,6 +34,7 @@ fn put_number(out: &mut [u8], n: u32) -> usize
     put::put_count(out, n).length()
 }
 
+// The line of a refusal: 64 bytes are room for it, whatever its numbers.
 fn put_refusal(out: &mut [u8], r: Refusal) -> usize
     requires { ⌜ 64 ≤ length (now out) ⌝ }
     ensures { λ n. ⌜ (n ≡ length (refusalText r)) × (now (out .exit) ≡ refusalText r ++ drop n (now (out .entry))) ⌝ }

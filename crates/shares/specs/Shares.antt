@@ -1,6 +1,6 @@
 -- What the analysis of task i reads of a table: of a task above i what S, O and F count, of a task below i what L counts.
 use Prim.Native.Nat.{ℕ, _+_, _-_, min}
-use mathlib.Core.Bool.{Bool, _&&_}
+use mathlib.Core.Bool.{_&&_}
 use lib.Dec.{leb, ltb}
 use lib.ListN.{replicate}
 use Rattle.basics.specs.Choice.{pick, only}

@@ -1,6 +1,6 @@
 -- "The same" is an equivalence of tables, and the check cannot tell two tables apart that are the same.
 -- Assumes nothing.
-use Prim.Native.Nat.{ℕ, _+_, _≤_, _<_}
+use Prim.Native.Nat.{ℕ, _+_, _≤_}
 use mathlib.Core.Path.{_≡_, refl, sym, ap, _∙_}
 use native.Mathlib.Omega.{arith}
 use Rattle.basics.specs.Over.{sumTo}
@@ -9,7 +9,7 @@ use Rattle.table.specs.declared.Pair.{Pair}
 use Rattle.table.specs.declared.Task.{Task}
 use Rattle.table.specs.declared.Table.{Table}
 use Rattle.table.specs.Limits.{maxResources}
-use Rattle.table.specs.At.{taskAt, totalOf, SameTask, Same}
+use Rattle.table.specs.At.{totalOf, SameTask, Same}
 use Rattle.table.specs.Faults.{firstFault}
 use Rattle.table.specs.Rules.{pairFaultOf, pairsFault, taskFault, taskFaultAt, tasksFault, tableFault}
 use Rattle.table.proofs.FirstLaws.{first-same}

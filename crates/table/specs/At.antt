@@ -14,11 +14,11 @@ abbrev pub noTask : Task
 noTask = record { period = 0; run = 0; deadline = 0; pairs = [] }
 
 -- a pair of N, c and CT, and a task of T, C, D and pairs
-abbrev pub pair : ℕ → ℕ → ℕ → Pair
-pair N c CT = record { requests = N; longest = c; total = CT }
+abbrev pub aPair : ℕ → ℕ → ℕ → Pair
+aPair N c CT = record { requests = N; longest = c; total = CT }
 
-abbrev pub task : ℕ → ℕ → ℕ → List Pair → Task
-task T C D pairs = record { period = T; run = C; deadline = D; pairs = pairs }
+abbrev pub aTask : ℕ → ℕ → ℕ → List Pair → Task
+aTask T C D pairs = record { period = T; run = C; deadline = D; pairs = pairs }
 
 -- task i + 1 of the paper
 abbrev pub taskAt : Table → ℕ → Task

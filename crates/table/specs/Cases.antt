@@ -10,7 +10,7 @@ use Rattle.table.specs.declared.Fault.the-variants.{OutOfRange, BadTimes
 use Rattle.table.specs.declared.Checked.{Checked}
 use Rattle.table.specs.declared.Checked.the-variants.{Fine}
 use Rattle.table.specs.Empty.{unusedPair}
-use Rattle.table.specs.At.{pair, task}
+use Rattle.table.specs.At.{aPair, aTask}
 use Rattle.table.specs.Faults.{at}
 use Rattle.table.specs.Rules.{tableFault}
 
@@ -24,11 +24,11 @@ case m n tasks answer = record { table = record { cpus = m; n = n; tasks = tasks
 
 -- a task that nothing is said against
 abbrev good : Task
-good = task 10_000 2_500 10_000 (pair 1 500 500 ∷ [])
+good = aTask 10_000 2_500 10_000 (aPair 1 500 500 ∷ [])
 
 -- a task with these pairs
 abbrev holding : List Pair → Task
-holding pairs = task 10_000 2_500 10_000 pairs
+holding pairs = aTask 10_000 2_500 10_000 pairs
 
 -- one task, on two processors
 abbrev one : Task → Checked → Case
@@ -43,15 +43,15 @@ sixteenth q = ends unusedPair q
 
 -- the largest numbers that the fields hold
 abbrev largest : Task
-largest = task 4_294_967_295 4_294_967_295 4_294_967_295 (replicate 16 (pair 4_294_967_295 4_294_967_295 4_294_967_295))
+largest = aTask 4_294_967_295 4_294_967_295 4_294_967_295 (replicate 16 (aPair 4_294_967_295 4_294_967_295 4_294_967_295))
 
 unfoldable pub cases : List Case
 cases =
     -- accepted: case A, the smallest table, each limit itself, 16 totals that just fit
-    case 2 3 (good ∷ task 20_000 4_000 15_000 [] ∷ task 30_000 6_000 30_000 (pair 2 750 1_500 ∷ []) ∷ []) Fine
-    ∷ case 1 1 (task 1 1 1 (pair 1 1 1 ∷ []) ∷ []) Fine
-    ∷ case 64 32 (replicate 32 (task 10_000_000 10_000_000 10_000_000 (sixteenth (pair 1_000 10_000_000 10_000_000)))) Fine
-    ∷ one (task 10_000_000 10_000_000 10_000_000 (replicate 16 (pair 1 625_000 625_000))) Fine
+    case 2 3 (good ∷ aTask 20_000 4_000 15_000 [] ∷ aTask 30_000 6_000 30_000 (aPair 2 750 1_500 ∷ []) ∷ []) Fine
+    ∷ case 1 1 (aTask 1 1 1 (aPair 1 1 1 ∷ []) ∷ []) Fine
+    ∷ case 64 32 (replicate 32 (aTask 10_000_000 10_000_000 10_000_000 (sixteenth (aPair 1_000 10_000_000 10_000_000)))) Fine
+    ∷ one (aTask 10_000_000 10_000_000 10_000_000 (replicate 16 (aPair 1 625_000 625_000))) Fine
     -- 9, which comes before 4
     ∷ case 2 0 (good ∷ []) (at NoTask 0)
     ∷ case 65 0 [] (at NoTask 0)
@@ -63,38 +63,38 @@ cases =
     ∷ case 65 1 (largest ∷ []) (at OutOfRange 0)
     -- 4 of T, C and D; the place is the task's number
     ∷ case 2 1 [] (at OutOfRange 1)
-    ∷ case 2 2 (good ∷ task 10_000_001 1 1 [] ∷ []) (at OutOfRange 2)
-    ∷ case 2 2 (good ∷ task 5 0 5 [] ∷ []) (at OutOfRange 2)
-    ∷ case 2 32 (replicate 31 good ++ (task 5 5 0 [] ∷ [])) (at OutOfRange 32)
+    ∷ case 2 2 (good ∷ aTask 10_000_001 1 1 [] ∷ []) (at OutOfRange 2)
+    ∷ case 2 2 (good ∷ aTask 5 0 5 [] ∷ []) (at OutOfRange 2)
+    ∷ case 2 32 (replicate 31 good ++ (aTask 5 5 0 [] ∷ [])) (at OutOfRange 32)
     ∷ one largest (at OutOfRange 1)
     -- 5: C above D, D above T
-    ∷ one (task 10 9 8 []) (at BadTimes 1)
-    ∷ case 2 2 (good ∷ task 10 9 11 [] ∷ []) (at BadTimes 2)
-    ∷ one (task 7 9 8 []) (at BadTimes 1)
+    ∷ one (aTask 10 9 8 []) (at BadTimes 1)
+    ∷ case 2 2 (good ∷ aTask 10 9 11 [] ∷ []) (at BadTimes 2)
+    ∷ one (aTask 7 9 8 []) (at BadTimes 1)
     -- 4 comes before 5
-    ∷ one (task 10 10_000_001 9 []) (at OutOfRange 1)
+    ∷ one (aTask 10 10_000_001 9 []) (at OutOfRange 1)
     -- 4: an unused pair with a c or a CT
-    ∷ one (holding (pair 0 1 0 ∷ [])) (at OutOfRange 1)
-    ∷ one (holding (sixteenth (pair 0 0 1))) (at OutOfRange 1)
+    ∷ one (holding (aPair 0 1 0 ∷ [])) (at OutOfRange 1)
+    ∷ one (holding (sixteenth (aPair 0 0 1))) (at OutOfRange 1)
     -- 4 of N, c and CT
-    ∷ one (holding (pair 1_001 2 2 ∷ [])) (at OutOfRange 1)
-    ∷ one (holding (pair 1 0 1 ∷ [])) (at OutOfRange 1)
-    ∷ one (holding (pair 1 1 0 ∷ [])) (at OutOfRange 1)
-    ∷ one (holding (pair 1 10_000_001 1 ∷ [])) (at OutOfRange 1)
-    ∷ one (holding (pair 1 1 10_000_001 ∷ [])) (at OutOfRange 1)
+    ∷ one (holding (aPair 1_001 2 2 ∷ [])) (at OutOfRange 1)
+    ∷ one (holding (aPair 1 0 1 ∷ [])) (at OutOfRange 1)
+    ∷ one (holding (aPair 1 1 0 ∷ [])) (at OutOfRange 1)
+    ∷ one (holding (aPair 1 10_000_001 1 ∷ [])) (at OutOfRange 1)
+    ∷ one (holding (aPair 1 1 10_000_001 ∷ [])) (at OutOfRange 1)
     -- 7: c above CT, CT above N × c, a sum above C
-    ∷ one (holding (pair 3 100 99 ∷ [])) (at BadTotals 1)
-    ∷ one (holding (pair 3 100 301 ∷ [])) (at BadTotals 1)
-    ∷ one (holding (pair 3 100 300 ∷ [])) Fine
-    ∷ one (holding (pair 1 2_501 2_501 ∷ [])) (at BadTotals 1)
-    ∷ one (holding (pair 1 2_500 2_500 ∷ [])) Fine
-    ∷ case 2 2 (good ∷ holding (ends (pair 1 2_499 2_499) (pair 1 2 2)) ∷ []) (at BadTotals 2)
-    ∷ case 2 2 (good ∷ holding (ends (pair 1 2_499 2_499) (pair 1 1 1)) ∷ []) Fine
+    ∷ one (holding (aPair 3 100 99 ∷ [])) (at BadTotals 1)
+    ∷ one (holding (aPair 3 100 301 ∷ [])) (at BadTotals 1)
+    ∷ one (holding (aPair 3 100 300 ∷ [])) Fine
+    ∷ one (holding (aPair 1 2_501 2_501 ∷ [])) (at BadTotals 1)
+    ∷ one (holding (aPair 1 2_500 2_500 ∷ [])) Fine
+    ∷ case 2 2 (good ∷ holding (ends (aPair 1 2_499 2_499) (aPair 1 2 2)) ∷ []) (at BadTotals 2)
+    ∷ case 2 2 (good ∷ holding (ends (aPair 1 2_499 2_499) (aPair 1 1 1)) ∷ []) Fine
     -- 5 comes before the pairs; of one pair 4 before 7; of two pairs the first; of two tasks the first
-    ∷ one (task 10 9 8 (pair 0 1 0 ∷ [])) (at BadTimes 1)
-    ∷ one (holding (pair 1_001 9 1 ∷ [])) (at OutOfRange 1)
-    ∷ one (holding (pair 3 100 99 ∷ pair 0 1 0 ∷ [])) (at BadTotals 1)
-    ∷ case 2 2 (holding (sixteenth (pair 3 100 99)) ∷ task 0 1 1 [] ∷ []) (at BadTotals 1)
+    ∷ one (aTask 10 9 8 (aPair 0 1 0 ∷ [])) (at BadTimes 1)
+    ∷ one (holding (aPair 1_001 9 1 ∷ [])) (at OutOfRange 1)
+    ∷ one (holding (aPair 3 100 99 ∷ aPair 0 1 0 ∷ [])) (at BadTotals 1)
+    ∷ case 2 2 (holding (sixteenth (aPair 3 100 99)) ∷ aTask 0 1 1 [] ∷ []) (at BadTotals 1)
     -- slots past the nth are not looked at
     ∷ case 2 2 (good ∷ good ∷ largest ∷ []) Fine
     ∷ []

@@ -1,5 +1,4 @@
 -- The empty table: no task, and zeros in every slot.
-use mathlib.Core.List.{[]}
 use lib.ListN.{replicate}
 use Rattle.table.specs.declared.Pair.{Pair}
 use Rattle.table.specs.declared.Task.{Task}

@@ -1,4 +1,5 @@
 -- The laws of the analysis.
+--   CasesHold     the computed cases
 --   WorkLaws      workload-rises, workload-bound, workload-none, ceilDiv-rises
 --   VerdictLaws   Rises, From, from-start, from-step, found, past; right-unique, verdict-right, verdict-is, keeps-bound;
 --                 climb, meets-by, misses-by

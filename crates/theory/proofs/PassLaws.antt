@@ -1,4 +1,4 @@
--- What a single pass over the tasks, from the first on, works out of the definitions.
+-- What a pass over the tasks, from the first on, works out of the definitions.
 -- Assumes nothing.
 use Prim.Native.Nat.{ℕ, zero, suc, _+_, _*_, _≤_, _<_}
 use mathlib.Core.Path.{_≡_, sym, _∙_}

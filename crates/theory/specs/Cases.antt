@@ -1,6 +1,6 @@
 -- Computed: the paper's point on the quotient, and a demand that tells the terms from the easy slips. With only case A, O or L dropped, a ceiling equal to i
 -- taken into L, or a quotient rounded down would not be seen.
-use Prim.Native.Nat.{ℕ, pred}
+use Prim.Native.Nat.{pred}
 use mathlib.Core.Path.{_≡_}
 use mathlib.Core.List.{List, [], _∷_}
 use lib.ListN.{getD}
@@ -8,7 +8,7 @@ use Rattle.table.specs.declared.Level.{Level}
 use Rattle.table.specs.declared.Resource.{Resource}
 use Rattle.table.specs.declared.Pair.{Pair}
 use Rattle.table.specs.Empty.{unusedPair}
-use Rattle.table.specs.At.{pair}
+use Rattle.table.specs.At.{aPair}
 use Rattle.theory.specs.Work.{workload, quotient}
 use Rattle.theory.specs.View.{View, level}
 use Rattle.theory.specs.Demand.{DB, S, O, F, L, demandOf}
@@ -16,10 +16,10 @@ use Rattle.theory.specs.Demand.{DB, S, O, F, L, demandOf}
 -- Two processors and four tasks, T and D 100 each. Locks: 1 of tasks 1 and 4; 2 of tasks 3 and 4, so that its ceiling is 3; 3 of tasks 2 and 3
 abbrev rows : List (List Pair)
 rows =
-    (pair 1 2 2 ∷ [])
-    ∷ (unusedPair ∷ unusedPair ∷ pair 1 1 1 ∷ [])
-    ∷ (unusedPair ∷ pair 2 4 5 ∷ pair 1 1 1 ∷ [])
-    ∷ (pair 1 3 3 ∷ pair 1 6 6 ∷ [])
+    (aPair 1 2 2 ∷ [])
+    ∷ (unusedPair ∷ unusedPair ∷ aPair 1 1 1 ∷ [])
+    ∷ (unusedPair ∷ aPair 2 4 5 ∷ aPair 1 1 1 ∷ [])
+    ∷ (aPair 1 3 3 ∷ aPair 1 6 6 ∷ [])
     ∷ []
 
 abbrev pairs : Level → Resource → Pair

@@ -1,6 +1,5 @@
 -- A table to a listing (document 01, "The listing"): the text of a table, and what the writer answers.
 use Prim.Native.Nat.{ℕ, suc}
-use mathlib.Core.Path.{_≡_}
 use mathlib.Core.List.{List, [], _∷_, _++_}
 use lib.ListN.{length, drop}
 use lib.Dec.{ltb, leb}

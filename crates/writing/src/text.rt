@@ -1,7 +1,7 @@
 // The text of a table. Each writer here has the room for what it writes: `write` works the length out first.
 ghost use mathlib.Core.Path.{_≡_};
 ghost use mathlib.Core.List.{[], _∷_, _++_};
-ghost use Prim.Native.Nat.{suc, _+_, _<_, _≤_};
+ghost use Prim.Native.Nat.{suc, _+_, _*_, _<_, _≤_};
 ghost use lib.ListN.{length, take, drop};
 ghost use lib.Dec.{ltb};
 ghost use Rattle.basics.specs.Choice.{pick};
@@ -117,7 +117,7 @@ fn put_line(out: &mut [u8], x: Task) -> usize
 
 fn task_len(x: Task) -> usize
     ensures { λ r. ⌜ r ≡ length (taskText x) ⌝ }
-    ensures { λ r. ⌜ r ≤ 841 ⌝ }
+    ensures { λ r. ⌜ r ≤ 41 + maxResources * 50 ⌝ }
 {
     let mut sum = line_len(x);
     let mut k: usize = 0;

@@ -1,7 +1,7 @@
 -- `analysis::analyse_all` meets its contract. The loop's invariant: the first k records are written, and past them the row is as it was. Assumes nothing.
 use Prim.Native.Nat.{ℕ, _-_, _≤_}
-use mathlib.Core.Path.{_≡_, refl, sym, ap, _∙_}
-use mathlib.Core.List.{List, _++_}
+use mathlib.Core.Path.{_≡_, sym, ap, _∙_}
+use mathlib.Core.List.{_++_}
 use native.Mathlib.Omega.{arith}
 use lib.ListN.{length, drop, set}
 use borrow.Author.Needs.{needs}
@@ -9,7 +9,6 @@ use Rattle.basics.specs.Over.{rowTo}
 use Rattle.basics.proofs.RowLaws.{over-none, over-more}
 use Rattle.table.specs.declared.Checked.the-variants.{Fine}
 use Rattle.table.specs.Limits.{maxTasks}
-use Rattle.analysis.specs.declared.Record.{Record}
 use Rattle.analysis.specs.Answers.{analysisFault, recordOf}
 use Rattle.analysis.proofs.RowLaws.{fits, row-fine, row-refused}
 use Rattle.analysis.proofs.analyse_all.Statement.{statement}

@@ -2,13 +2,13 @@
 use borrow.Author.Needs.{needs}
 use mathlib.Core.Path.{_≡_, refl, sym, _∙_}
 use native.Mathlib.Omega.{arith}
-use Prim.Native.Nat.{_+_, _*_, _≤_, _-_}
+use Prim.Native.Nat.{_*_, _≤_, _-_}
 use Rattle.table.specs.declared.Checked.the-variants.{Fine}
 use Rattle.basics.specs.Over.{sumTo}
 use Rattle.basics.proofs.SumLaws.{sum-more}
 use Rattle.table.specs.At.{totalOf}
 use Rattle.table.specs.Faults.{firstFault}
-use Rattle.table.specs.Rules.{pairFault, pairFaultOf, pairsFault}
+use Rattle.table.specs.Rules.{pairFaultOf, pairsFault}
 use Rattle.table.proofs.FirstLaws.{first-more, first-at}
 use Rattle.checking.proofs.check_pairs.Statement.{statement}
 use Rattle.checking.proofs.check_pairs.Tie as tie

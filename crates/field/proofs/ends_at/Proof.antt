@@ -1,7 +1,7 @@
 -- `field::ends_at` meets its contract. Assumes nothing.
 use borrow.Author.Tests.{eq-eqb, ne-eqb}
 use lib.Seq.{drop-cons}
-use lib.ListN.{getD, drop-of-length-le}
+use lib.ListN.{drop-of-length-le}
 use borrow.Author.Needs.{needs}
 use Rattle.field.proofs.ends_at.Statement.{statement}
 use Rattle.field.proofs.ends_at.Tie as tie

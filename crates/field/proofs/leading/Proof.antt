@@ -1,12 +1,9 @@
 -- `field::leading` meets its contract. The loop's invariant: the digits from n on make up, with those passed, the digits of the whole, in length and in number. Assumes nothing.
-use Prim.Native.Nat.{ℕ, zero, suc, _+_, _-_, _*_, _^_, _≤_, _<_}
+use Prim.Native.Nat.{_+_, _-_, _^_, _≤_, _<_}
 use mathlib.Core.Path.{_≡_, refl, sym, ap, _∙_}
-use mathlib.Core.List.{List, [], _∷_}
 use native.Mathlib.Omega.{arith}
-use borrow.Author.Needs.{needs}
-use lib.ListN.{length, getD, take, drop}
+use lib.ListN.{length, drop}
 use Rattle.field.specs.Number.{digits, number}
-use Rattle.field.specs.Runs.{runOf}
 use Rattle.field.proofs.DigitLaws.{digits-none, digits-low, digits-high, digits-more, run-of, run-long, ten, room}
 use Rattle.field.proofs.leading.Statement.{statement}
 use Rattle.field.proofs.leading.Tie as tie

@@ -1,7 +1,7 @@
 -- `field::leading_at` meets its contract: past the end there are no digits. Assumes nothing.
 use Rattle.basics.proofs.FillLaws.{whole-part}
 use Rattle.field.specs.Runs.{runOf}
-use mathlib.Core.Path.{_≡_, ap, _∙_}
+use mathlib.Core.Path.{ap, _∙_}
 use lib.ListN.{drop-of-length-le}
 use borrow.Author.Needs.{needs}
 use Rattle.field.proofs.leading_at.Statement.{statement}

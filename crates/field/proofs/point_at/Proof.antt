@@ -1,6 +1,6 @@
 -- `field::point_at` meets its contract. Assumes nothing.
 use lib.Seq.{drop-cons}
-use lib.ListN.{getD, drop-of-length-le}
+use lib.ListN.{drop-of-length-le}
 use borrow.Author.Needs.{needs}
 use Rattle.field.proofs.point_at.Statement.{statement}
 use Rattle.field.proofs.point_at.Tie as tie

@@ -9,7 +9,7 @@ use Rattle.basics.proofs.ChoiceLaws.{stops, passes}
 use Rattle.basics.proofs.AllLaws.{all-none, all-more, all-fails}
 use Rattle.table.specs.Limits.{maxTasks}
 use Rattle.rounds.specs.Shares.{shareAt}
-use Rattle.rounds.specs.Outcome.{shareFits, headFits, isSound}
+use Rattle.rounds.specs.Outcome.{shareFits, headFits}
 use Rattle.rounds.proofs.SoundLaws.{head-tasks, sound-head, sound-all}
 use Rattle.rounds.proofs.is_sound.Statement.{statement}
 use Rattle.rounds.proofs.is_sound.Tie as tie

@@ -1,4 +1,4 @@
--- `shares::lower` meets its contract. The parts are what `split` and `unless` ensure. Assumes nothing.
+-- `shares::lower` meets its contract. The parts are what `split` and `unless_short` ensure. Assumes nothing.
 use borrow.Author.Needs.{needs}
 use mathlib.Core.Path.{refl, ap, _∙_}
 use Rattle.basics.specs.Choice.{pick}
