@@ -178,6 +178,7 @@ fn split(m: Marks, b: Task) -> Totals
     Totals { marked, all }
 }
 
+// a times b.
 fn product(a: u32, b: u32) -> u64
     ensures { λ r. ⌜ r ≡ a * b ⌝ }
 {
@@ -188,7 +189,7 @@ fn product(a: u32, b: u32) -> u64
 const MAX_WAIT: u64 = Table::MAX_RESOURCES as u64
     * (Table::MAX_COUNT as u64 * Table::MAX_TIME as u64);
 
-// DB (6): N times the longest request below, over the resources.
+// DB (6): N times the longest request below, over the resources; or the most that it can be, so that the sum fits whatever the table holds.
 fn waiting(m: Peaks, a: Task) -> u64
     ensures { λ r. ⌜ WaitIs m a r ⌝ }
 {
@@ -307,7 +308,7 @@ fn none() -> Shares
 }
 
 // What the analysis of the task at slot i reads. Whether a ceiling is above i is known once the tasks down to i are. Of the task itself nothing counts,
-// as of one below it in the short form without locks.
+// as of one below it in the short form.
 pub fn shares_of(t: Table, i: usize) -> Shares
     ensures { λ r. ⌜ r ≡ sharesOf t i ⌝ }
 {
