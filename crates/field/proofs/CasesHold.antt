@@ -1,8 +1,9 @@
 -- Assumes nothing.
 use mathlib.Core.Path.{refl}
-use Rattle.field.specs.Number.{fraction, timeField, countField}
-use Rattle.field.specs.Cases.{marked, times, counts, CasesHold}
+use Rattle.field.specs.Number.{rounded, fraction, timeField, countField}
+use Rattle.field.specs.ThreeDecimals.{shortFraction, shortTime}
+use Rattle.field.specs.Cases.{marked, times, down, up, long, counts, CasesHold}
 
 pub cases-hold : CasesHold
-unfolding marked times counts fraction timeField countField
-cases-hold = (refl, refl)
+unfolding marked times down up long counts rounded fraction timeField countField shortFraction shortTime
+cases-hold = (refl, refl, refl, refl, refl, refl)

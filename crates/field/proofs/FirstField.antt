@@ -13,7 +13,8 @@ use Rattle.basics.specs.Choice.{pick, within}
 use Rattle.basics.proofs.ChoiceLaws.{pick-when, within-true}
 use Rattle.field.specs.declared.Field.{Field}
 use Rattle.field.specs.declared.Field.the-variants.{Value, Bad}
-use Rattle.field.specs.Number.{isDigit, digits, number, apart, first, ends, point, micros, fraction, timeField, countField}
+use Rattle.field.specs.declared.Rounding.{Rounding}
+use Rattle.field.specs.Number.{isDigit, digits, number, apart, first, ends, point, nanos, rounded, fraction, timeField, countField}
 
 -- a digit parts no fields
 pub digit-in : (b : ℕ) → isDigit b ≡ true → apart b ≡ false
@@ -73,9 +74,9 @@ first-rest s = ap (drop (length (digits s))) (first-split s) ∙ drop-append-sea
 
 -- ---- the field alone
 
-fraction-first : (v at : ℕ) (s : List ℕ) → fraction v at (first s) ≡ fraction v at s
+fraction-first : (way : Rounding) (v at : ℕ) (s : List ℕ) → fraction way v at (first s) ≡ fraction way v at s
 unfolding fraction
-fraction-first v at s = rw (first-digits s, first-rest s, ends-first (drop (length (digits s)) s))
+fraction-first way v at s = rw (first-digits s, first-rest s, ends-first (drop (length (digits s)) s))
 
 pub count-first : (s : List ℕ) → countField (first s) ≡ countField s
 unfolding countField
@@ -85,12 +86,12 @@ past-point : (s : List ℕ) (n : ℕ) → drop n (first s) ≡ first (drop n s) 
 past-point s n e p =
     sym (drop-drop 1 n (first s)) ∙ ap (drop 1) (e ∙ first-point (drop n s) p) ∙ ap first (drop-drop 1 n s)
 
-pub time-first : (s : List ℕ) → timeField (first s) ≡ timeField s
+pub time-first : (way : Rounding) (s : List ℕ) → timeField way (first s) ≡ timeField way s
 unfolding timeField
-time-first s =
+time-first way s =
     let n = length (digits s) in
     let r = drop n s in
     let v = number 0 (digits s) in
     rw (first-digits s, first-rest s, ends-first (drop (length (digits s)) s), point-first (drop (length (digits s)) s))
-    (ap (λ (x : Field). pick (within 1 5 n) (pick (ends r) (Value (micros v []) n) x) Bad)
-    (pick-when Bad (point r) (λ p. ap (fraction v (n + 1)) (past-point s n (first-rest s) p) ∙ fraction-first v (n + 1) (drop (n + 1) s))))
+    (ap (λ (x : Field). pick (within 1 5 n) (pick (ends r) (Value (rounded way (nanos v [])) n) x) Bad)
+    (pick-when Bad (point r) (λ p. ap (fraction way v (n + 1)) (past-point s n (first-rest s) p) ∙ fraction-first way v (n + 1) (drop (n + 1) s))))

@@ -11,7 +11,8 @@ use Rattle.basics.specs.Choice.{pick, within}
 use Rattle.basics.proofs.ChoiceLaws.{and-true, within-true}
 use Rattle.field.specs.declared.Field.{Field}
 use Rattle.field.specs.declared.Field.the-variants.{Value, Bad}
-use Rattle.field.specs.Number.{digits, number, first, ends, point, micros, fraction, timeField, countField}
+use Rattle.field.specs.declared.Rounding.{Rounding}
+use Rattle.field.specs.Number.{digits, number, first, ends, point, nanos, rounded, fraction, timeField, countField}
 use Rattle.field.proofs.FirstField.{first-none, first-point, first-split}
 
 -- ---- what a field is that reads as a number
@@ -41,19 +42,20 @@ pub count-read : (s : List ℕ) (v n : ℕ) → countField s ≡ Value v n → A
 unfolding countField
 count-read s v n e = all-digits 4 s (Value (number 0 (digits s)) (length (digits s))) v n e
 
-fraction-read : (u at : ℕ) (s : List ℕ) (v n : ℕ) → fraction u at s ≡ Value v n → AllDigits 3 s × (Value (micros u (digits s)) (at + length (digits s)) ≡ Value v n)
+fraction-read : (way : Rounding) (u at : ℕ) (s : List ℕ) (v n : ℕ) → fraction way u at s ≡ Value v n
+    → AllDigits 6 s × (Value (rounded way (nanos u (digits s))) (at + length (digits s)) ≡ Value v n)
 unfolding fraction
-fraction-read u at s v n e = all-digits 3 s (Value (micros u (digits s)) (at + length (digits s))) v n e
+fraction-read way u at s v n e = all-digits 6 s (Value (rounded way (nanos u (digits s))) (at + length (digits s))) v n e
 
--- one to five digits, or those, a point and one to three digits, which f starts with
-pub data TimeRead (s : List ℕ) (v n : ℕ) : Type 0 where
-  read-whole : AllDigits 5 s → Value (micros (number 0 (digits s)) []) (length (digits s)) ≡ Value v n → TimeRead s v n
-  read-pointed : {f : List ℕ} → (1 ≤ length (digits s)) × (length (digits s) ≤ 5) → first s ≡ digits s ++ (46 ∷ digits f) → AllDigits 3 f
-      → Value (micros (number 0 (digits s)) (digits f)) (length (digits s) + 1 + length (digits f)) ≡ Value v n → TimeRead s v n
+-- one to five digits, or those, a point and one to six digits, which f starts with
+pub data TimeRead (way : Rounding) (s : List ℕ) (v n : ℕ) : Type 0 where
+  read-whole : AllDigits 5 s → Value (rounded way (nanos (number 0 (digits s)) [])) (length (digits s)) ≡ Value v n → TimeRead way s v n
+  read-pointed : {f : List ℕ} → (1 ≤ length (digits s)) × (length (digits s) ≤ 5) → first s ≡ digits s ++ (46 ∷ digits f) → AllDigits 6 f
+      → Value (rounded way (nanos (number 0 (digits s)) (digits f))) (length (digits s) + 1 + length (digits f)) ≡ Value v n → TimeRead way s v n
 
-pub time-read : (s : List ℕ) (v n : ℕ) → timeField s ≡ Value v n → TimeRead s v n
+pub time-read : (way : Rounding) (s : List ℕ) (v n : ℕ) → timeField way s ≡ Value v n → TimeRead way s v n
 unfolding timeField
-time-read s v n e = go (ends r) refl (p .1)
+time-read way s v n e = go (ends r) refl (p .1)
   where
     m : ℕ
     m = length (digits s)
@@ -65,19 +67,19 @@ time-read s v n e = go (ends r) refl (p .1)
     f = drop (m + 1) s
 
     after : Field
-    after = pick (point r) (fraction (number 0 (digits s)) (m + 1) f) Bad
+    after = pick (point r) (fraction way (number 0 (digits s)) (m + 1) f) Bad
 
-    p : (within 1 5 m ≡ true) × (pick (ends r) (Value (micros (number 0 (digits s)) []) m) after ≡ Value v n)
-    p = pick-value (within 1 5 m) (pick (ends r) (Value (micros (number 0 (digits s)) []) m) after) v n e
+    p : (within 1 5 m ≡ true) × (pick (ends r) (Value (rounded way (nanos (number 0 (digits s)) [])) m) after ≡ Value v n)
+    p = pick-value (within 1 5 m) (pick (ends r) (Value (rounded way (nanos (number 0 (digits s)) [])) m) after) v n e
 
     b : (1 ≤ m) × (m ≤ 5)
     b = within-true 1 5 m (p .0)
 
-    go : (t : Bool) → ends r ≡ t → pick t (Value (micros (number 0 (digits s)) []) m) after ≡ Value v n → TimeRead s v n
+    go : (t : Bool) → ends r ≡ t → pick t (Value (rounded way (nanos (number 0 (digits s)) [])) m) after ≡ Value v n → TimeRead way s v n
     go true d q = read-whole (record { all = all-here s d; some = b .0; few = b .1 }) q
     go false d q =
-        let h = pick-value (point r) (fraction (number 0 (digits s)) (m + 1) f) v n q in
-        let l = fraction-read (number 0 (digits s)) (m + 1) f v n (h .1) in
+        let h = pick-value (point r) (fraction way (number 0 (digits s)) (m + 1) f) v n q in
+        let l = fraction-read way (number 0 (digits s)) (m + 1) f v n (h .1) in
         let a = first-point r (h .0) ∙ ap (λ (x : List ℕ). 46 ∷ first x) (drop-drop 1 m s) ∙ ap (λ (x : List ℕ). 46 ∷ x) (l .0 .all) in
         read-pointed {f = f} b (first-split s ∙ ap (λ (x : List ℕ). digits s ++ x) a) (l .0) (l .1)
 
@@ -89,10 +91,10 @@ count-width s v n e =
     let q : n ≡ length (digits s) = cc in
     omega (arith, r .0 .few, ap length (r .0 .all))
 
-pub time-width : (s : List ℕ) (v n : ℕ) → timeField s ≡ Value v n → (n ≡ length (first s)) × (n ≤ 9)
-time-width s v n e = go (time-read s v n e)
+pub time-width : (way : Rounding) (s : List ℕ) (v n : ℕ) → timeField way s ≡ Value v n → (n ≡ length (first s)) × (n ≤ 12)
+time-width way s v n e = go (time-read way s v n e)
   where
-    go : TimeRead s v n → (n ≡ length (first s)) × (n ≤ 9)
+    go : TimeRead way s v n → (n ≡ length (first s)) × (n ≤ 12)
     go (read-whole r z) =
         let q : n ≡ length (digits s) = cc in
         omega (arith, ap length (r .all))

@@ -1,4 +1,4 @@
--- The meaning said twice (specs/Spelling.antt) agrees: a field reads as v exactly if it states v.
+-- The meaning said twice (specs/Spelling.antt) agrees: a count reads as v exactly if it states v, a time exactly if what it types is rounded to v.
 -- Assumes nothing.
 use Prim.Native.Nat.{ℕ, _+_, _-_, _*_, _^_, _≤_}
 use mathlib.Core.Path.{_≡_, refl, sym, ap, _∙_}
@@ -11,9 +11,11 @@ use lib.Seq.{drop-length, drop-append-seam, drop-append-add}
 use Rattle.basics.specs.Choice.{pick}
 use Rattle.basics.proofs.ChoiceLaws.{within-in}
 use Rattle.field.specs.declared.Field.the-variants.{Value}
-use Rattle.field.specs.Number.{isDigit, digits, number, first, ends, micros, fraction, timeField, countField}
-use Rattle.field.specs.Spelling.{Digits, none, one, valueOf, DigitsTo, StatesTime, whole, pointed, StatesCount}
-use Rattle.field.proofs.DigitLaws.{padded-number, micros-whole}
+use Rattle.field.specs.declared.Rounding.{Rounding}
+use Rattle.field.specs.Number.{isDigit, digits, number, first, ends, nanos, rounded, fraction, timeField, countField}
+use Rattle.field.specs.Spelling.{Digits, none, one, valueOf, DigitsTo, Time, Types, whole, pointed, StatesTime, StatesCount}
+use Rattle.field.proofs.DigitLaws.{padded-number}
+use Rattle.field.proofs.RoundingLaws.{rounded-to, to-rounded}
 use Rattle.field.proofs.FirstField.{digit-in, first-none, count-first, time-first}
 use Rattle.field.proofs.ReadAs.{AllDigits, count-read, TimeRead, read-whole, read-pointed, time-read}
 
@@ -59,16 +61,26 @@ count-states s v n e =
     let q : v ≡ number 0 (digits s) = cc in
     rw (r .0 .all) (record { digits = digits-to 4 s (r .0); value = q ∙ value-number (digits s) })
 
-pub time-states : (s : List ℕ) (v n : ℕ) → timeField s ≡ Value v n → StatesTime (first s) v
-time-states s v n e = go (time-read s v n e)
+-- w states a time that is kept as v
+pub record StatesKept (way : Rounding) (w : List ℕ) (v : ℕ) : Type 0 where
+  pub typed : ℕ
+  pub states : StatesTime way w (record { typed = typed; kept = v })
+
+pub time-states : (way : Rounding) (s : List ℕ) (v n : ℕ) → timeField way s ≡ Value v n → StatesKept way (first s) v
+time-states way s v n e = go (time-read way s v n e)
   where
-    go : TimeRead s v n → StatesTime (first s) v
+    -- the nanoseconds that are read
+    kept : (ns : ℕ) → v ≡ rounded way ns → Types (first s) ns → StatesKept way (first s) v
+    kept ns q t = record { typed = ns; states = record { types = t; keeps = rw q (rounded-to way ns) } }
+
+    go : TimeRead way s v n → StatesKept way (first s) v
     go (read-whole a z) =
-        let q : v ≡ valueOf (digits s) * 1000 = cc (micros-whole (number 0 (digits s)), value-number (digits s)) in
-        rw (a .all) (whole (digits-to 5 s a) q)
+        let q : nanos (number 0 (digits s)) [] ≡ valueOf (digits s) * 1_000_000 = omega (arith, value-number (digits s)) in
+        kept (nanos (number 0 (digits s)) []) (cc) (rw (a .all) (whole (digits-to 5 s a) q))
     go (read-pointed {f} b a r z) =
-        let q : v ≡ valueOf (digits s) * 1000 + valueOf (digits f) * 10 ^ (3 - length (digits f)) = cc (padded-number (number 0 (digits s)) (digits f) (r .some) (r .few), value-number (digits s), value-number (digits f)) in
-        rw a (pointed (record { digits = digits-are s; some = b .0; few = b .1 }) (digits-to 3 f r) q)
+        let q : nanos (number 0 (digits s)) (digits f) ≡ valueOf (digits s) * 1_000_000 + valueOf (digits f) * 10 ^ (6 - length (digits f)) =
+        cc (padded-number (number 0 (digits s)) (digits f) (r .few), value-number (digits s), value-number (digits f)) in
+        kept (nanos (number 0 (digits s)) (digits f)) (cc) (rw a (pointed (record { digits = digits-are s; some = b .0; few = b .1 }) (digits-to 6 f r) q))
 
 -- ---- what states v reads as v
 
@@ -81,21 +93,23 @@ count-of w v c =
 pub states-count : (s : List ℕ) (v : ℕ) → StatesCount (first s) v → countField s ≡ Value v (length (first s))
 states-count s v c = sym (count-first s) ∙ count-of (first s) v c
 
-fraction-of : (u at : ℕ) (f : List ℕ) → DigitsTo 3 f → fraction u at f ≡ Value (micros u f) (at + length f)
+fraction-of : (way : Rounding) (u at : ℕ) (f : List ℕ) → DigitsTo 6 f → fraction way u at f ≡ Value (rounded way (nanos u f)) (at + length f)
 unfolding fraction
-fraction-of u at f d = rw (digits-whole f (d .digits), drop-length f, within-in 1 3 (length f) (d .some) (d .few))
+fraction-of way u at f d = rw (digits-whole f (d .digits), drop-length f, within-in 1 6 (length f) (d .some) (d .few))
 
-time-of : (w : List ℕ) (v : ℕ) → StatesTime w v → timeField w ≡ Value v (length w)
+time-of : (way : Rounding) (w : List ℕ) (ns : ℕ) → Types w ns → timeField way w ≡ Value (rounded way ns) (length w)
 unfolding timeField
-time-of w v (whole d e) =
-    rw (digits-whole w (d .digits), drop-length w, within-in 1 5 (length w) (d .some) (d .few), micros-whole (number 0 w), value-number w, e)
-time-of _ v (pointed {w} {f} d g e) =
-    rw (digits-all w (46 ∷ f) (d .digits) refl, drop-append-seam w (46 ∷ f), drop-append-add w (46 ∷ f) 1, within-in 1 5 (length w) (d .some) (d .few), fraction-of (number 0 w) (length w + 1) f g)
-    (rw (padded-number (number 0 w) f (g .some) (g .few), value-number w, value-number f, ← e, length-append w (46 ∷ f))
-    (ap (Value v) (omega arith)))
+time-of way w ns (whole d e) =
+    let q : nanos (valueOf w) [] ≡ ns = padded-number (valueOf w) [] (omega arith) ∙ omega arith in
+    rw (digits-whole w (d .digits), drop-length w, within-in 1 5 (length w) (d .some) (d .few), value-number w, q)
+time-of way _ ns (pointed {w} {f} d g e) =
+    rw (digits-all w (46 ∷ f) (d .digits) refl, drop-append-seam w (46 ∷ f), drop-append-add w (46 ∷ f) 1, within-in 1 5 (length w) (d .some) (d .few), fraction-of way (number 0 w) (length w + 1) f g)
+    (rw (padded-number (number 0 w) f (g .few), value-number w, value-number f, ← e, length-append w (46 ∷ f))
+    (ap (Value (rounded way ns)) (omega arith)))
 
-pub states-time : (s : List ℕ) (v : ℕ) → StatesTime (first s) v → timeField s ≡ Value v (length (first s))
-states-time s v t = sym (time-first s) ∙ time-of (first s) v t
+pub states-time : (way : Rounding) (s : List ℕ) (x : Time) → StatesTime way (first s) x → timeField way s ≡ Value (x .kept) (length (first s))
+states-time way s x t =
+    sym (time-first way s) ∙ time-of way (first s) (x .typed) (t .types) ∙ ap (λ (v : ℕ). Value v (length (first s))) (to-rounded way (x .typed) (x .kept) (t .keeps))
 
 -- ---- a field that is joined to a text
 
@@ -105,14 +119,14 @@ digits-alone w z d e = digits-first w z d ∙ rw (first-none z e) (append-nil w)
 pub no-apart-count : (w : List ℕ) (v : ℕ) → StatesCount w v → (z : List ℕ) → ends z ≡ true → first (w ++ z) ≡ w
 no-apart-count w v c z e = digits-alone w z (c .digits .digits) e
 
-pub no-apart-time : (w : List ℕ) (v : ℕ) → StatesTime w v → (z : List ℕ) → ends z ≡ true → first (w ++ z) ≡ w
-no-apart-time w v (whole d q) z e = digits-alone w z (d .digits) e
-no-apart-time _ v (pointed {w} {f} d g q) z e =
+pub no-apart-time : (w : List ℕ) (ns : ℕ) → Types w ns → (z : List ℕ) → ends z ≡ true → first (w ++ z) ≡ w
+no-apart-time w ns (whole d q) z e = digits-alone w z (d .digits) e
+no-apart-time _ ns (pointed {w} {f} d g q) z e =
     rw (append-assoc w (46 ∷ f) z, digits-first w (46 ∷ (f ++ z)) (d .digits), digits-alone f z (g .digits) e)
 
 pub some-count : (w : List ℕ) (v : ℕ) → StatesCount w v → 1 ≤ length w
 some-count w v c = c .digits .some
 
-pub some-time : (w : List ℕ) (v : ℕ) → StatesTime w v → 1 ≤ length w
-some-time w v (whole d q) = d .some
-some-time _ v (pointed {w} {f} d g q) = omega (arith, length-append w (46 ∷ f))
+pub some-time : (w : List ℕ) (ns : ℕ) → Types w ns → 1 ≤ length w
+some-time w ns (whole d q) = d .some
+some-time _ ns (pointed {w} {f} d g q) = omega (arith, length-append w (46 ∷ f))

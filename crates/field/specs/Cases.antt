@@ -6,7 +6,9 @@ use mathlib.Core.List.{List, [], _∷_, _++_, map}
 use Rattle.basics.specs.Text.{bytes}
 use Rattle.field.specs.declared.Field.{Field}
 use Rattle.field.specs.declared.Field.the-variants.{Value, Bad}
+use Rattle.field.specs.declared.Rounding.the-variants.{Down, Up}
 use Rattle.field.specs.Number.{timeField, countField}
+use Rattle.field.specs.ThreeDecimals.{shortTime}
 
 pub record Case : Type 0 where
   pub text : String
@@ -14,6 +16,8 @@ pub record Case : Type 0 where
 
 abbrev case : String → Field → Case
 case t f = record { text = t; answer = f }
+
+-- ---- read alike whichever way is told, and as document 01 has it
 
 -- the fields that the paper marks P
 unfoldable pub marked : List Case
@@ -41,17 +45,61 @@ times =
     ∷ case "2." Bad
     ∷ case "2. 5" Bad
     ∷ case ".5" Bad
-    ∷ case "2.5000" Bad
     ∷ case "100000" Bad
     ∷ case "" Bad
     ∷ case " 2" Bad
     ∷ case "2,5" Bad
     ∷ case "2.5x" Bad
+    ∷ case "2.50x0" Bad
     ∷ case "2.5.5" Bad
     ∷ case "-2" Bad
     ∷ case "2\r\n" Bad
     ∷ case "2\t" Bad
     ∷ []
+
+-- ---- more than three decimals (document 02, 1/12)
+
+-- a period or deadline
+unfoldable pub down : List Case
+down =
+    case "2.5000" (Value 2_500 6)
+    ∷ case "2.5009" (Value 2_500 6)
+    ∷ case "2.500999" (Value 2_500 8)
+    ∷ case "2.501000" (Value 2_501 8)
+    ∷ case "2.00050" (Value 2_000 7)
+    ∷ case "0.0009" (Value 0 6)
+    ∷ case "0.9995" (Value 999 6)
+    ∷ case "10000.000999" (Value 10_000_000 12)
+    ∷ case "99999.999999" (Value 99_999_999 12)
+    ∷ []
+
+-- a run time, longest request or total
+unfoldable pub up : List Case
+up =
+    case "2.5000" (Value 2_500 6)
+    ∷ case "2.5001" (Value 2_501 6)
+    ∷ case "2.500001" (Value 2_501 8)
+    ∷ case "2.501000" (Value 2_501 8)
+    ∷ case "2.00050" (Value 2_001 7)
+    ∷ case "0.000001" (Value 1 8)
+    ∷ case "0.000000" (Value 0 8)
+    -- the carry
+    ∷ case "0.9995" (Value 1_000 6)
+    ∷ case "10000.000001" (Value 10_000_001 12)
+    ∷ case "99999.999999" (Value 100_000_000 12)
+    ∷ []
+
+-- neither
+unfoldable pub long : List Case
+long =
+    case "2.0000001" Bad
+    ∷ case "2.5000000" Bad
+    ∷ case "2.50000x" Bad
+    ∷ case "100000.0001" Bad
+    ∷ case "2.5000\r" Bad
+    ∷ []
+
+-- ----
 
 unfoldable pub counts : List Case
 counts =
@@ -69,4 +117,10 @@ abbrev reads : (List ℕ → Field) → List Case → Type 0
 reads field cases = map (λ (c : Case). field (bytes (c .text))) cases ≡ map (λ (c : Case). c .answer) cases
 
 abbrev pub CasesHold : Type 0
-CasesHold = reads timeField (marked ++ times) × reads countField counts
+CasesHold =
+    reads (timeField Down) (marked ++ times)
+    × reads (timeField Up) (marked ++ times)
+    × reads shortTime (marked ++ times)
+    × reads (timeField Down) (down ++ long)
+    × reads (timeField Up) (up ++ long)
+    × reads countField counts

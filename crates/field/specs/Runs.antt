@@ -8,8 +8,8 @@ use Rattle.field.specs.declared.Run.{Run}
 use Rattle.field.specs.declared.Run.the-variants.{Of, Long}
 use Rattle.field.specs.Number.{digits, number}
 
--- the digits that s starts with: how many and what number, or that there are more than five
-unfoldable pub runOf : List ℕ → Run
-runOf s =
+-- the digits that s starts with: how many and what number, or that there are more than so many
+unfoldable pub runOf : ℕ → List ℕ → Run
+runOf most s =
     let w = digits s in
-    pick (leb (length w) 5) (Of (length w) (number 0 w)) Long
+    pick (leb (length w) most) (Of (length w) (number 0 w)) Long

@@ -1,9 +1,11 @@
 -- The meaning of a field said a second way, without reading it: which texts state a number, and which number.
-use Prim.Native.Nat.{ℕ, _+_, _-_, _*_, _^_, _≤_}
+use Prim.Native.Nat.{ℕ, _+_, _-_, _*_, _^_, _≤_, _<_}
 use mathlib.Core.Path.{_≡_}
 use mathlib.Core.Bool.{true}
 use mathlib.Core.List.{List, [], _∷_, _++_}
 use lib.ListN.{length}
+use Rattle.field.specs.declared.Rounding.{Rounding}
+use Rattle.field.specs.declared.Rounding.the-variants.{Down, Up}
 use Rattle.field.specs.Number.{isDigit}
 
 -- a text of digits and nothing else
@@ -22,11 +24,26 @@ pub record DigitsTo (n : ℕ) (w : List ℕ) : Type 0 where
   pub some : 1 ≤ length w
   pub few : length w ≤ n
 
--- w is digits, or digits, a point and digits f, and v = number(w) × 1000 + number(f) × 10^(3 − length f)
-pub data StatesTime : List ℕ → ℕ → Type 0 where
-  whole : {w : List ℕ} {v : ℕ} → DigitsTo 5 w → v ≡ valueOf w * 1000 → StatesTime w v
-  pointed : {w f : List ℕ} {v : ℕ} → DigitsTo 5 w → DigitsTo 3 f
-      → v ≡ valueOf w * 1000 + valueOf f * 10 ^ (3 - length f) → StatesTime (w ++ (46 ∷ f)) v
+-- a time: as it is typed, in nanoseconds, and as it is kept, in microseconds
+pub record Time : Type 0 where
+  pub typed : ℕ
+  pub kept : ℕ
+
+-- w is digits, or digits, a point and digits f, and types ns = number(w) × 1,000,000 + number(f) × 10^(6 − length f) nanoseconds
+pub data Types : List ℕ → ℕ → Type 0 where
+  whole : {w : List ℕ} {ns : ℕ} → DigitsTo 5 w → ns ≡ valueOf w * 1_000_000 → Types w ns
+  pointed : {w f : List ℕ} {ns : ℕ} → DigitsTo 5 w → DigitsTo 6 f
+      → ns ≡ valueOf w * 1_000_000 + valueOf f * 10 ^ (6 - length f) → Types (w ++ (46 ∷ f)) ns
+
+-- v is the whole microsecond that ns nanoseconds are rounded to, said without dividing: it lies on its side of them, and less than a microsecond away
+unfoldable pub RoundedTo : Rounding → ℕ → ℕ → Type 0
+RoundedTo Down ns v = (v * 1000 ≤ ns) × (ns < (v + 1) * 1000)
+RoundedTo Up ns v = (ns ≤ v * 1000) × (v * 1000 < ns + 1000)
+
+-- w states the time x, rounded this way
+pub record StatesTime (way : Rounding) (w : List ℕ) (x : Time) : Type 0 where
+  pub types : Types w (x .typed)
+  pub keeps : RoundedTo way (x .typed) (x .kept)
 
 pub record StatesCount (w : List ℕ) (v : ℕ) : Type 0 where
   pub digits : DigitsTo 4 w

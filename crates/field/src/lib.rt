@@ -1,8 +1,8 @@
 // The number fields of a listing: read at the start of a part of the line that runs on past them.
 ghost use mathlib.Core.Path.{_≡_};
 ghost use lib.ListN.{drop};
-ghost use Prim.Native.Nat.{_-_, _*_, _^_, _≤_};
-ghost use Rattle.field.specs.Number.{ends, point, fraction, timeField, countField};
+ghost use Prim.Native.Nat.{_-_, _*_, _^_, _≤_, _<_};
+ghost use Rattle.field.specs.Number.{ends, point, rounded, fraction, timeField, countField};
 ghost use Rattle.field.specs.Runs.{runOf};
 
 // A field's value and its width in bytes, or that it is badly formed.
@@ -11,15 +11,22 @@ pub enum Field {
     Bad,
 }
 
-// A run of at most five digits: how many, and their number; or that there are more.
+// Which way a time is rounded to the microsecond.
+pub enum Rounding {
+    Down,
+    Up,
+}
+
+// A run of at most so many digits: how many, and their number; or that there are more.
 enum Run {
     Of(usize, u32),
     Long,
 }
 
 // The digits that s starts with.
-fn leading(s: &[u8]) -> Run
-    ensures { λ r. ⌜ r ≡ runOf (now (s .entry)) ⌝ }
+fn leading(s: &[u8], most: usize) -> Run
+    requires { ⌜ most ≤ 9 ⌝ }
+    ensures { λ r. ⌜ r ≡ runOf most (now (s .entry)) ⌝ }
 {
     let mut n: usize = 0;
     let mut v: u32 = 0;
@@ -31,7 +38,7 @@ fn leading(s: &[u8]) -> Run
         if 57 < b {
             return Run::Of(n, v);
         }
-        if n == 5 {
+        if n == most {
             return Run::Long;
         }
         v = v * 10 + (b - 48) as u32;
@@ -41,13 +48,14 @@ fn leading(s: &[u8]) -> Run
 }
 
 // The digits from a place on.
-fn leading_at(s: &[u8], at: usize) -> Run
-    ensures { λ r. ⌜ r ≡ runOf (drop at (now (s .entry))) ⌝ }
+fn leading_at(s: &[u8], at: usize, most: usize) -> Run
+    requires { ⌜ most ≤ 9 ⌝ }
+    ensures { λ r. ⌜ r ≡ runOf most (drop at (now (s .entry))) ⌝ }
 {
     if s.len() <= at {
         return Run::Of(0, 0);
     }
-    leading(&s[at..])
+    leading(&s[at..], most)
 }
 
 // Whether a field ends at a place: at a space, an LF or the end.
@@ -74,46 +82,54 @@ fn point_at(s: &[u8], at: usize) -> bool
     s[at] == 46
 }
 
-// One to three digits that make the number x, in thousandths: padded on the right.
-fn thousandths(digits: usize, x: u32) -> u32
-    requires { ⌜ (1 ≤ digits) × (digits ≤ 3) × (x ≤ 999) ⌝ }
-    ensures { λ r. ⌜ (r ≡ x * 10 ^ (3 - digits)) × (r ≤ 99900) ⌝ }
+// The number x of so many digits after the point, in millionths: padded on the right.
+fn millionths(digits: usize, x: u32) -> u32
+    requires { ⌜ (digits ≤ 6) × (x < 10 ^ digits) ⌝ }
+    ensures { λ r. ⌜ (r ≡ x * 10 ^ (6 - digits)) × (r < 1000000) ⌝ }
 {
-    if digits == 1 {
-        return x * 100;
+    let mut r = x;
+    let mut n = digits;
+    while n < 6 {
+        r = r * 10;
+        n += 1;
     }
-    if digits == 2 {
-        return x * 10;
+    r
+}
+
+// The nanoseconds past a whole millisecond, in microseconds.
+fn micros(rounding: Rounding, ns: u32) -> u32
+    requires { ⌜ ns < 1000000 ⌝ }
+    ensures { λ r. ⌜ (r ≡ rounded rounding ns) × (r ≤ 1000) ⌝ }
+{
+    match rounding {
+        Rounding::Down => ns / 1000,
+        Rounding::Up => (ns + 999) / 1000,
     }
-    x
 }
 
 // What follows the point, at a place, of a time whose whole part is v.
-fn fraction_at(s: &[u8], at: usize, v: u32) -> Field
+fn fraction_at(s: &[u8], at: usize, v: u32, rounding: Rounding) -> Field
     requires { ⌜ (at ≤ 6) × (v ≤ 99999) ⌝ }
-    ensures { λ r. ⌜ r ≡ fraction v at (drop at (now (s .entry))) ⌝ }
+    ensures { λ r. ⌜ r ≡ fraction rounding v at (drop at (now (s .entry))) ⌝ }
 {
-    let Run::Of(n, x) = leading_at(s, at) else {
+    let Run::Of(n, x) = leading_at(s, at, 6) else {
         return Field::Bad;
     };
     if n == 0 {
-        return Field::Bad;
-    }
-    if 3 < n {
         return Field::Bad;
     }
     let end = at + n;
     if !ends_at(s, end) {
         return Field::Bad;
     }
-    Field::Value(v * 1000 + thousandths(n, x), end)
+    Field::Value(v * 1000 + micros(rounding, millionths(n, x)), end)
 }
 
 // A time, in microseconds.
-pub fn time(s: &[u8]) -> Field
-    ensures { λ r. ⌜ r ≡ timeField (now (s .entry)) ⌝ }
+pub fn time(s: &[u8], rounding: Rounding) -> Field
+    ensures { λ r. ⌜ r ≡ timeField rounding (now (s .entry)) ⌝ }
 {
-    let Run::Of(n, v) = leading(s) else {
+    let Run::Of(n, v) = leading(s, 5) else {
         return Field::Bad;
     };
     if n == 0 {
@@ -125,20 +141,17 @@ pub fn time(s: &[u8]) -> Field
     if !point_at(s, n) {
         return Field::Bad;
     }
-    fraction_at(s, n + 1, v)
+    fraction_at(s, n + 1, v, rounding)
 }
 
 // A count.
 pub fn count(s: &[u8]) -> Field
     ensures { λ r. ⌜ r ≡ countField (now (s .entry)) ⌝ }
 {
-    let Run::Of(n, v) = leading(s) else {
+    let Run::Of(n, v) = leading(s, 4) else {
         return Field::Bad;
     };
     if n == 0 {
-        return Field::Bad;
-    }
-    if 4 < n {
         return Field::Bad;
     }
     if !ends_at(s, n) {

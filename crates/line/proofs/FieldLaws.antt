@@ -14,11 +14,14 @@ use Rattle.basics.specs.Choice.{pick}
 use Rattle.basics.proofs.ChoiceLaws.{and-true}
 use Rattle.field.specs.declared.Field.{Field}
 use Rattle.field.specs.declared.Field.the-variants.{Value, Bad}
+use Rattle.field.specs.declared.Rounding.the-variants.{Down, Up}
 use Rattle.field.specs.Number.{apart, first, timeField, countField}
 use Rattle.field.proofs.FirstField.{time-first, count-first}
 use Rattle.field.proofs.ReadAs.{time-width, count-width}
+use Rattle.line.specs.declared.FieldKind.{FieldKind}
+use Rattle.line.specs.declared.FieldKind.the-variants.{Count, TimeDown, TimeUp}
 use Rattle.line.specs.Fields.{others, fields, filled, fieldCount, same, form}
-use Rattle.line.specs.Places.{placed}
+use Rattle.line.specs.Places.{fieldAs, placed}
 
 -- ---- a line's form
 
@@ -55,16 +58,16 @@ past-first (b ∷ s) w ws e = go (apart b) e (past-first s w ws)
     go true q ih = refl
     go false q ih = ih q
 
--- field k of s begins at place p, and m more follow it; each field before it has at most 9 bytes
+-- field k of s begins at place p, and m more follow it; each field before it has at most 12 bytes
 pub record Begins (s : List ℕ) (k m p : ℕ) : Type 0 where
   pub place : fields (drop p s) ≡ drop k (fields s)
   pub many : length (fields s) ≡ suc (k + m)
-  pub near : p ≤ 10 * k
+  pub near : p ≤ 13 * k
 
 pub here : (s : List ℕ) (k m p : ℕ) → Begins s k m p → first (drop p s) ≡ getD (fields s) k []
 here s k m p b = let d = b .place ∙ drop-cons (fields s) k [] (omega arith) in cc
 
-pub next : (s : List ℕ) (k m p n : ℕ) → Begins s k (suc m) p → (n ≡ length (first (drop p s))) × (n ≤ 9) → Begins s (suc k) m (p + n + 1)
+pub next : (s : List ℕ) (k m p n : ℕ) → Begins s k (suc m) p → (n ≡ length (first (drop p s))) × (n ≤ 12) → Begins s (suc k) m (p + n + 1)
 next s k m p n b w =
     let d = b .place ∙ drop-cons (fields s) k [] (omega arith) in
     let o : others (drop p s) ≡ drop (suc k) (fields s) = cc in
@@ -77,7 +80,7 @@ next s k m p n b w =
     }
 
 -- after the word, the second field of a line of this form
-pub form-second : (w : List ℕ) (m : ℕ) (s : List ℕ) → length w ≤ 9 → form w (suc (suc m)) s ≡ true → Begins s 1 m (length w + 1)
+pub form-second : (w : List ℕ) (m : ℕ) (s : List ℕ) → length w ≤ 12 → form w (suc (suc m)) s ≡ true → Begins s 1 m (length w + 1)
 form-second w m s l e =
     let f = form-fields w (suc m) s e in
     let b : Begins s 0 (suc m) 0 = record { place = refl; many = omega arith; near = omega arith } in
@@ -85,25 +88,27 @@ form-second w m s l e =
 
 -- ---- the number of a field
 
--- numbers of the kind f: read off the field alone, as wide as the field
-pub record Kind (f : List ℕ → Field) : Type 0 where
-  pub alone : (s : List ℕ) → f (first s) ≡ f s
-  pub width : (s : List ℕ) (v n : ℕ) → f s ≡ Value v n → (n ≡ length (first s)) × (n ≤ 9)
+pub as-nothing : (kind : FieldKind) → fieldAs kind [] ≡ Bad
+unfolding countField timeField
+as-nothing Count = refl
+as-nothing TimeDown = refl
+as-nothing TimeUp = refl
 
-pub time-kind : Kind timeField
-time-kind = record { alone = time-first; width = time-width }
+-- a number is read off the field alone, and is as wide as the field
+as-alone : (kind : FieldKind) (s : List ℕ) → fieldAs kind (first s) ≡ fieldAs kind s
+as-alone Count s = count-first s
+as-alone TimeDown s = time-first Down s
+as-alone TimeUp s = time-first Up s
 
-pub count-kind : Kind countField
-count-kind =
-    record {
-      alone = count-first;
-      width = λ s v n e. let w = count-width s v n e in omega arith;
-    }
+pub as-width : (kind : FieldKind) (s : List ℕ) (v n : ℕ) → fieldAs kind s ≡ Value v n → (n ≡ length (first s)) × (n ≤ 12)
+as-width Count s v n e = let w = count-width s v n e in omega arith
+as-width TimeDown s v n e = time-width Down s v n e
+as-width TimeUp s v n e = time-width Up s v n e
 
 -- field k of s states v
-pub record States (f : List ℕ → Field) (s : List ℕ) (k v : ℕ) : Type 0 where
+pub record States (kind : FieldKind) (s : List ℕ) (k v : ℕ) : Type 0 where
   pub width : ℕ
-  pub says : f (getD (fields s) k []) ≡ Value v width
+  pub says : fieldAs kind (getD (fields s) k []) ≡ Value v width
 
 placed-bad : (p : ℕ) (x : Field) → placed p x ≡ Bad → x ≡ Bad
 placed-bad p (Value v n) e = let z : _≡_ {A = ℕ} 0 1 = cc in absurd (omega arith)
@@ -114,20 +119,20 @@ placed-value p (Value u n) v q e = (n, (cc, cc))
 placed-value p Bad v q e = let z : _≡_ {A = ℕ} 0 1 = cc in absurd (omega arith)
 
 -- what the answer a to the number at the place of field k says of the field
-module _ {f : List ℕ → Field} (kind : Kind f) {s : List ℕ} {k p : ℕ} where
-  at-field : {m : ℕ} → Begins s k m p → f (drop p s) ≡ f (getD (fields s) k [])
-  at-field {m} b = sym (kind .alone (drop p s)) ∙ ap f (here s k m p b)
+module _ (kind : FieldKind) {s : List ℕ} {k p : ℕ} where
+  at-field : {m : ℕ} → Begins s k m p → fieldAs kind (drop p s) ≡ fieldAs kind (getD (fields s) k [])
+  at-field {m} b = sym (as-alone kind (drop p s)) ∙ ap (fieldAs kind) (here s k m p b)
 
-  pub bad-field : {m : ℕ} {a : Field} → Begins s k m p → a ≡ placed p (f (drop p s)) → a ≡ Bad → f (getD (fields s) k []) ≡ Bad
-  bad-field b e g = sym (at-field b) ∙ placed-bad p (f (drop p s)) (sym e ∙ g)
+  pub bad-field : {m : ℕ} {a : Field} → Begins s k m p → a ≡ placed p (fieldAs kind (drop p s)) → a ≡ Bad → fieldAs kind (getD (fields s) k []) ≡ Bad
+  bad-field b e g = sym (at-field b) ∙ placed-bad p (fieldAs kind (drop p s)) (sym e ∙ g)
 
-  pub states : {m v q : ℕ} {a : Field} → Begins s k m p → a ≡ placed p (f (drop p s)) → a ≡ Value v q → States f s k v
+  pub states : {m v q : ℕ} {a : Field} → Begins s k m p → a ≡ placed p (fieldAs kind (drop p s)) → a ≡ Value v q → States kind s k v
   states {v = v} {q = q} b e g =
-      let r = placed-value p (f (drop p s)) v q (sym e ∙ g) in
+      let r = placed-value p (fieldAs kind (drop p s)) v q (sym e ∙ g) in
       record { width = r .0; says = sym (at-field b) ∙ r .1 .0 }
 
-  pub steps : {m v q : ℕ} {a : Field} → Begins s k (suc m) p → a ≡ placed p (f (drop p s)) → a ≡ Value v q
-      → States f s k v × Begins s (suc k) m q
+  pub steps : {m v q : ℕ} {a : Field} → Begins s k (suc m) p → a ≡ placed p (fieldAs kind (drop p s)) → a ≡ Value v q
+      → States kind s k v × Begins s (suc k) m q
   steps {m} {v} {q} b e g =
-      let r = placed-value p (f (drop p s)) v q (sym e ∙ g) in
-      (states b e g, rw (r .1 .1) (next s k m p (r .0) b (kind .width (drop p s) v (r .0) (r .1 .0))))
+      let r = placed-value p (fieldAs kind (drop p s)) v q (sym e ∙ g) in
+      (states b e g, rw (r .1 .1) (next s k m p (r .0) b (as-width kind (drop p s) v (r .0) (r .1 .0))))

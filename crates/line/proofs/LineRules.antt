@@ -12,6 +12,7 @@ use Rattle.table.specs.Limits.{maxCpus, maxTasks, maxResources}
 use Rattle.table.specs.Accepted.{GoodTimes, GoodPair}
 use Rattle.field.specs.declared.Field.{Field}
 use Rattle.field.specs.declared.Field.the-variants.{Value}
+use Rattle.field.specs.declared.Rounding.the-variants.{Down, Up}
 use Rattle.line.specs.declared.Past.{Past}
 use Rattle.line.specs.declared.Said.{Said}
 use Rattle.line.specs.declared.Said.the-variants.{Cpus, Task as TaskLine, Use, Not}
@@ -51,8 +52,8 @@ pub record UseRules (past : Past) (f g h i : Field) (K : Resource) (p : Pair) : 
 -- what a line is that says this
 pub data Line (past : Past) (n : ℕ) (s : List ℕ) : Said → Type 0 where
   is-cpus : {M : ℕ} → form (bytes "cpus") 2 s ≡ true → n ≡ 1 → CpusRules (countIn s 1) M → Line past n s (Cpus M)
-  is-task : {T C D : ℕ} → form (bytes "task") 4 s ≡ true → 1 < n → TaskRules past (timeIn s 1) (timeIn s 2) (timeIn s 3) T C D
+  is-task : {T C D : ℕ} → form (bytes "task") 4 s ≡ true → 1 < n → TaskRules past (timeIn Down s 1) (timeIn Up s 2) (timeIn Down s 3) T C D
       → Line past n s (TaskLine T C D)
   is-use : {K : Resource} {p : Pair} → form (bytes "use") 5 s ≡ true → 0 < past .tasks
-      → UseRules past (countIn s 1) (countIn s 2) (timeIn s 3) (timeIn s 4) K p → Line past n s (Use K p)
+      → UseRules past (countIn s 1) (countIn s 2) (timeIn Up s 3) (timeIn Up s 4) K p → Line past n s (Use K p)
   is-not : (r : Refusal) → Line past n s (Not r)

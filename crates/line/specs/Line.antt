@@ -1,4 +1,4 @@
--- Document 01, "The listing" and "Refusals by number": what a line says, or its first refusal.
+-- Document 01, "The listing" and "Refusals by number": what a line says, or its first refusal. How its times are rounded: document 02, 1/12.
 use Prim.Native.Nat.{ℕ, _+_}
 use mathlib.Core.Bool.{Bool, true, false, _&&_}
 use mathlib.Core.List.{List, []}
@@ -15,6 +15,8 @@ use Rattle.table.specs.Faults.{_then_, unless}
 use Rattle.table.specs.Rules.{timesFault, usedInRange, totalsFit}
 use Rattle.field.specs.declared.Field.{Field}
 use Rattle.field.specs.declared.Field.the-variants.{Value, Bad}
+use Rattle.field.specs.declared.Rounding.{Rounding}
+use Rattle.field.specs.declared.Rounding.the-variants.{Down, Up}
 use Rattle.field.specs.Number.{timeField, countField}
 use Rattle.line.specs.declared.Past.{Past}
 use Rattle.line.specs.declared.Said.{Said}
@@ -66,13 +68,14 @@ useLine past n K N c CT =
 abbrev pub countIn : List ℕ → ℕ → Field
 countIn s i = countField (getD (fields s) i [])
 
-abbrev pub timeIn : List ℕ → ℕ → Field
-timeIn s i = timeField (getD (fields s) i [])
+abbrev pub timeIn : Rounding → List ℕ → ℕ → Field
+timeIn way s i = timeField way (getD (fields s) i [])
 
--- line n: `cpus` first and only there, `use` after a task; else it is "not of its form or place" (2)
+-- line n: `cpus` first and only there, `use` after a task; else it is "not of its form or place" (2).
+-- "A run time, longest request or total (C, c, CT) is rounded up to the microsecond; a period or deadline (T, D) is rounded down."
 unfoldable pub lineSays : Past → ℕ → List ℕ → Said
 lineSays past n s =
     pick (form (bytes "cpus") 2 s && eqb n 1) (cpusLine n (countIn s 1))
-    (pick (form (bytes "task") 4 s && ltb 1 n) (taskLine past n (timeIn s 1) (timeIn s 2) (timeIn s 3))
-    (pick (form (bytes "use") 5 s && ltb 0 (past .tasks)) (useLine past n (countIn s 1) (countIn s 2) (timeIn s 3) (timeIn s 4))
+    (pick (form (bytes "task") 4 s && ltb 1 n) (taskLine past n (timeIn Down s 1) (timeIn Up s 2) (timeIn Down s 3))
+    (pick (form (bytes "use") 5 s && ltb 0 (past .tasks)) (useLine past n (countIn s 1) (countIn s 2) (timeIn Up s 3) (timeIn Up s 4))
     (Not (record { fault = BadForm; place = n }))))

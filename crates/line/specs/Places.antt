@@ -1,7 +1,18 @@
--- A field by its place. No reader has to believe this: only the contracts of private functions cite it.
+-- A field by its kind and place. No reader has to believe this: only the contracts of private functions cite it.
 use Prim.Native.Nat.{ℕ, _+_}
+use mathlib.Core.List.{List}
 use Rattle.field.specs.declared.Field.{Field}
 use Rattle.field.specs.declared.Field.the-variants.{Value, Bad}
+use Rattle.field.specs.declared.Rounding.the-variants.{Down, Up}
+use Rattle.field.specs.Number.{timeField, countField}
+use Rattle.line.specs.declared.FieldKind.{FieldKind}
+use Rattle.line.specs.declared.FieldKind.the-variants.{Count, TimeDown, TimeUp}
+
+-- a field read as one of this kind
+abbrev pub fieldAs : FieldKind → List ℕ → Field
+fieldAs Count s = countField s
+fieldAs TimeDown s = timeField Down s
+fieldAs TimeUp s = timeField Up s
 
 -- the answer to a field that begins at a place, with the place where the next one begins in place of the field's width
 abbrev pub placed : ℕ → Field → Field

@@ -8,13 +8,15 @@ ghost use Rattle.basics.specs.Text.{bytes};
 ghost use Rattle.table.specs.Limits.{maxTasks};
 ghost use Rattle.table.specs.declared.Fault.the-variants.{TooManyTasks};
 ghost use Rattle.table.specs.Faults.{_then_, unless};
-ghost use Rattle.field.specs.Number.{first, timeField, countField};
+ghost use Rattle.field.specs.Number.{first};
 ghost use Rattle.field.specs.declared.Field.the-variants.{Value};
+ghost use Rattle.field.specs.declared.Rounding.the-variants.{Down, Up};
 ghost use Rattle.line.specs.declared.Said.the-variants.{Not};
 ghost use Rattle.line.specs.Fields.{fieldCount, same, form};
-ghost use Rattle.line.specs.Places.{placed};
+ghost use Rattle.line.specs.Places.{fieldAs, placed};
 ghost use Rattle.line.specs.Line.{countIn, timeIn, cpusLine, taskLine, useLine, lineSays};
 use field::Field;
+use field::Rounding;
 use table::Checked;
 use table::Fault;
 use table::Pair;
@@ -39,6 +41,13 @@ pub enum Said {
     Task(u32, u32, u32),
     Use(Resource, Pair),
     Not(Refusal),
+}
+
+// What a field of a line is: a count, or a time and the way that it is rounded.
+enum FieldKind {
+    Count,
+    TimeDown,
+    TimeUp,
 }
 
 // Line `number` is refused.
@@ -105,29 +114,26 @@ fn is_form(line: &[u8], n: usize, word: &[u8], k: usize) -> bool
     same_field(line, word)
 }
 
-// The time at a place of the line, with the place where the next field begins. No field begins past 64: the fields before it are short.
-fn time_at(line: &[u8], at: usize) -> Field
-    requires { ⌜ at ≤ 64 ⌝ }
-    ensures { λ r. ⌜ r ≡ placed at (timeField (drop at (now (line .entry)))) ⌝ }
+// The number that s starts with, read as a field of this kind.
+fn field_as(s: &[u8], kind: FieldKind) -> Field
+    ensures { λ r. ⌜ r ≡ fieldAs kind (now (s .entry)) ⌝ }
 {
-    if line.len() <= at {
-        return Field::Bad;
+    match kind {
+        FieldKind::Count => field::count(s),
+        FieldKind::TimeDown => field::time(s, Rounding::Down),
+        FieldKind::TimeUp => field::time(s, Rounding::Up),
     }
-    let Field::Value(v, width) = field::time(&line[at..]) else {
-        return Field::Bad;
-    };
-    Field::Value(v, at + width + 1)
 }
 
-// The count at a place of the line, likewise.
-fn count_at(line: &[u8], at: usize) -> Field
+// The number at a place of the line, with the place where the next field begins. No field begins past 64: the fields before it are short.
+fn field_at(line: &[u8], at: usize, kind: FieldKind) -> Field
     requires { ⌜ at ≤ 64 ⌝ }
-    ensures { λ r. ⌜ r ≡ placed at (countField (drop at (now (line .entry)))) ⌝ }
+    ensures { λ r. ⌜ r ≡ placed at (fieldAs kind (drop at (now (line .entry)))) ⌝ }
 {
     if line.len() <= at {
         return Field::Bad;
     }
-    let Field::Value(v, width) = field::count(&line[at..]) else {
+    let Field::Value(v, width) = field_as(&line[at..], kind) else {
         return Field::Bad;
     };
     Field::Value(v, at + width + 1)
@@ -202,7 +208,7 @@ fn cpus_line(number: u32, line: &[u8]) -> Said
     requires { ⌜ form (bytes "cpus") 2 (now line) ≡ true ⌝ }
     ensures { λ r. ⌜ r ≡ cpusLine number (countIn (now (line .entry)) 1) ⌝ }
 {
-    let Field::Value(m, _) = count_at(line, 5) else {
+    let Field::Value(m, _) = field_at(line, 5, FieldKind::Count) else {
         return refuse(Fault::BadField, number);
     };
     cpus_of(number, m)
@@ -211,15 +217,15 @@ fn cpus_line(number: u32, line: &[u8]) -> Said
 // `task T C D`.
 fn task_line(past: Past, number: u32, line: &[u8]) -> Said
     requires { ⌜ form (bytes "task") 4 (now line) ≡ true ⌝ }
-    ensures { λ r. ⌜ r ≡ taskLine past number (timeIn (now (line .entry)) 1) (timeIn (now (line .entry)) 2) (timeIn (now (line .entry)) 3) ⌝ }
+    ensures { λ r. ⌜ r ≡ taskLine past number (timeIn Down (now (line .entry)) 1) (timeIn Up (now (line .entry)) 2) (timeIn Down (now (line .entry)) 3) ⌝ }
 {
-    let Field::Value(period, run_at) = time_at(line, 5) else {
+    let Field::Value(period, run_at) = field_at(line, 5, FieldKind::TimeDown) else {
         return refuse(Fault::BadField, number);
     };
-    let Field::Value(run, deadline_at) = time_at(line, run_at) else {
+    let Field::Value(run, deadline_at) = field_at(line, run_at, FieldKind::TimeUp) else {
         return refuse(Fault::BadField, number);
     };
-    let Field::Value(deadline, _) = time_at(line, deadline_at) else {
+    let Field::Value(deadline, _) = field_at(line, deadline_at, FieldKind::TimeDown) else {
         return refuse(Fault::BadField, number);
     };
     task_of(past, number, period, run, deadline)
@@ -228,18 +234,18 @@ fn task_line(past: Past, number: u32, line: &[u8]) -> Said
 // `use K N c CT`.
 fn use_line(past: Past, number: u32, line: &[u8]) -> Said
     requires { ⌜ form (bytes "use") 5 (now line) ≡ true ⌝ }
-    ensures { λ r. ⌜ r ≡ useLine past number (countIn (now (line .entry)) 1) (countIn (now (line .entry)) 2) (timeIn (now (line .entry)) 3) (timeIn (now (line .entry)) 4) ⌝ }
+    ensures { λ r. ⌜ r ≡ useLine past number (countIn (now (line .entry)) 1) (countIn (now (line .entry)) 2) (timeIn Up (now (line .entry)) 3) (timeIn Up (now (line .entry)) 4) ⌝ }
 {
-    let Field::Value(k, requests_at) = count_at(line, 4) else {
+    let Field::Value(k, requests_at) = field_at(line, 4, FieldKind::Count) else {
         return refuse(Fault::BadField, number);
     };
-    let Field::Value(requests, longest_at) = count_at(line, requests_at) else {
+    let Field::Value(requests, longest_at) = field_at(line, requests_at, FieldKind::Count) else {
         return refuse(Fault::BadField, number);
     };
-    let Field::Value(longest, total_at) = time_at(line, longest_at) else {
+    let Field::Value(longest, total_at) = field_at(line, longest_at, FieldKind::TimeUp) else {
         return refuse(Fault::BadField, number);
     };
-    let Field::Value(total, _) = time_at(line, total_at) else {
+    let Field::Value(total, _) = field_at(line, total_at, FieldKind::TimeUp) else {
         return refuse(Fault::BadField, number);
     };
     use_of(

@@ -2,12 +2,12 @@
 use mathlib.Core.Path.{refl}
 use Rattle.table.specs.Empty.{emptyTask, emptyTable}
 use Rattle.table.specs.Rules.{timesInRange, timesInOrder, timesFault, usedInRange, totalsFit}
-use Rattle.field.specs.Number.{fraction, timeField, countField}
+use Rattle.field.specs.Number.{rounded, fraction, timeField, countField}
 use Rattle.line.specs.Fields.{fieldCount}
 use Rattle.line.specs.Line.{cpusLine, taskLine, useLine, lineSays}
 use Rattle.listing.specs.Read.{pastAfter, newTask, tableAfter, readEnd, readLines, readListing}
-use Rattle.listing.specs.ReadCases.{cases, tableA, CasesHold}
+use Rattle.listing.specs.ReadCases.{cases, tableA, tableR, CasesHold}
 
 pub cases-hold : CasesHold
-unfolding cases tableA emptyTask emptyTable timesInRange timesInOrder timesFault usedInRange totalsFit fraction timeField countField fieldCount cpusLine taskLine useLine lineSays pastAfter newTask tableAfter readEnd readLines readListing
-cases-hold = (refl, refl, refl, refl)
+unfolding cases tableA tableR emptyTask emptyTable timesInRange timesInOrder timesFault usedInRange totalsFit rounded fraction timeField countField fieldCount cpusLine taskLine useLine lineSays pastAfter newTask tableAfter readEnd readLines readListing
+cases-hold = (refl, refl, refl, refl, refl)

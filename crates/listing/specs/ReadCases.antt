@@ -76,7 +76,7 @@ cases =
     ∷ bad "cpus 2\ntask 10 2. 0\n" BadField 2
     ∷ bad "cpus 2\ntask 0 11 1x\n" BadField 2
     ∷ bad (using5 "use 0 x 1 1\n") BadField 3
-    ∷ bad (using5 "use 17 1 9 9.0000\n") BadField 3
+    ∷ bad (using5 "use 17 1 9 9.0000000\n") BadField 3
     -- ranges
     ∷ bad "cpus 65\n" OutOfRange 1
     ∷ bad "cpus 0\n" OutOfRange 1
@@ -108,6 +108,22 @@ cases =
     ∷ bad (full ++ "task 10 2.5 10\n") TooManyTasks 34
     ∷ bad (full ++ "task 0 11 10\n") TooManyTasks 34
     ∷ bad (full ++ "task 10 x 10\n") BadField 34
+    -- more than three decimals (document 02, 1/12): C, c and CT are rounded up, T and D down; seven digits are too many; 4, 5 and 7 see the rounded values
+    ∷ fine "cpus 2\ntask 2.5009 2.4995 2.500001\n"
+    ∷ fine "cpus 2\ntask 10.0001 1 10.0009\n"
+    ∷ bad "cpus 2\ntask 10 2.0000001 10\n" BadField 2
+    ∷ bad "cpus 2\ntask 0.0009 11 10.0000000\n" BadField 2
+    ∷ bad "cpus 2\ntask 0.0009 0.0009 0.0009\n" OutOfRange 2
+    ∷ bad "cpus 2\ntask 10 1 0.000999\n" OutOfRange 2
+    ∷ fine "cpus 2\ntask 10000.000999 9999.999999 10000.000999\n"
+    ∷ bad "cpus 2\ntask 10000 10000.000001 10000\n" OutOfRange 2
+    ∷ bad "cpus 2\ntask 10 99999.999999 10\n" OutOfRange 2
+    ∷ bad "cpus 2\ntask 10 2.0001 2.0009\n" BadTimes 2
+    ∷ bad (using5 "use 1 1 0.5001 0.5\n") BadTotals 3
+    ∷ fine (using5 "use 1 2 0.5001 1.0002\n")
+    ∷ bad (using5 "use 1 2 0.5 1.0001\n") BadTotals 3
+    -- they fit as typed; each is rounded up by itself
+    ∷ bad "cpus 2\ntask 10 1 10\nuse 1 1 0.5001 0.5001\nuse 2 1 0.4999 0.4999\n" BadTotals 4
     -- of two faulty lines the first
     ∷ bad "cpus 2\ntask 10 9 8\nuse 0 x\n" BadTimes 2
     ∷ []
@@ -125,10 +141,20 @@ tableA =
           ∷ replicate 29 emptyTask;
     }
 
+-- a table whose every time is rounded
+unfoldable pub tableR : Table
+tableR =
+    record {
+      cpus = 1;
+      n = 1;
+      tasks = aTask 2_500 2_500 2_500 (aPair 2 500 1_000 ∷ replicate 15 unusedPair) ∷ replicate 31 emptyTask;
+    }
+
 abbrev pub CasesHold : Type 0
 CasesHold =
     (map (λ (c : Case). readListing (bytes (c .text)) .answer) cases ≡ map (λ (c : Case). c .answer) cases)
     × (readListing (bytes caseA) ≡ accepted tableA)
+    × (readListing (bytes "cpus 1\ntask 2.5009 2.499001 2.500001\nuse 1 2 0.4999 0.9995\n") ≡ accepted tableR)
     -- as many LF as a listing may have bytes, and one more
     × (readListing (replicate 65_536 10) ≡ refused BadForm 1)
     × (readListing (replicate 65_537 10) ≡ refused TooLong 0)

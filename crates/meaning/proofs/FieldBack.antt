@@ -1,6 +1,6 @@
 -- The text of a count and of a time states what it was written for, and is read back.
 -- Assumes nothing.
-use Prim.Native.Nat.{ℕ, zero, suc, _+_, _-_, _/_, _%_, _^_, _≤_, _<_}
+use Prim.Native.Nat.{ℕ, zero, suc, _+_, _-_, _*_, _/_, _%_, _^_, _≤_, _<_}
 use mathlib.Core.Path.{_≡_, refl, sym, _∙_}
 use mathlib.Core.Bool.{true}
 use mathlib.Core.List.{List, [], _∷_, _++_}
@@ -10,11 +10,13 @@ use lib.ListN.{length}
 use lib.Dec.{lit≤}
 use Rattle.basics.proofs.ChoiceLaws.{within-in}
 use Rattle.field.specs.declared.Field.the-variants.{Value}
+use Rattle.field.specs.declared.Rounding.{Rounding}
 use Rattle.field.specs.Number.{number, ends, timeField, countField}
-use Rattle.field.specs.Spelling.{Digits, none, one, valueOf, DigitsTo, StatesTime, whole, StatesCount}
+use Rattle.field.specs.Spelling.{Digits, none, one, valueOf, DigitsTo, Time, Types, whole, StatesTime, StatesCount}
 use Rattle.field.specs.Spelling
 use Rattle.put.specs.Text.{digitsOf, width, countText, timeText}
 use Rattle.field.proofs.DigitLaws.{number-append}
+use Rattle.field.proofs.RoundingLaws.{whole-to}
 use Rattle.field.proofs.Spelled.{value-number, states-count, states-time, no-apart-count, no-apart-time}
 use Rattle.put.proofs.TextLaws.{width-least, width-few, width-enough, digits-length}
 use Rattle.put.proofs.TimeLaws.{Trimmed, trimmed, time-plain, time-point}
@@ -54,8 +56,16 @@ count-to m n l h = digits-to m (width n) n (width-least n) (width-few n m l h)
 pub count-text : (n : ℕ) → n ≤ 9_999 → StatesCount (countText n) n
 count-text n h = record { digits = count-to 4 n (lit≤ tt) (omega arith); value = count-value n (omega arith) }
 
-pub time-text : (us : ℕ) → us ≤ 99_999_999 → StatesTime (timeText us) us
-time-text us h = let t = trimmed (us % 1000) (omega arith) in go (t .0) (t .1) (t .2)
+-- a fraction of k digits, worth so many thousandths, in millionths
+millionths : (k x y : ℕ) → k ≤ 3 → x ≡ y * 10 ^ (3 - k) → x * 1000 ≡ y * 10 ^ (6 - k)
+millionths zero x y h e = omega arith
+millionths (suc zero) x y h e = omega arith
+millionths (suc (suc zero)) x y h e = omega arith
+millionths (suc (suc (suc zero))) x y h e = omega arith
+millionths (suc (suc (suc (suc k)))) x y h e = absurd (omega arith)
+
+time-types : (us : ℕ) → us ≤ 99_999_999 → Types (timeText us) (us * 1000)
+time-types us h = let t = trimmed (us % 1000) (omega arith) in go (t .0) (t .1) (t .2)
   where
     q : DigitsTo 5 (countText (us / 1000))
     q = count-to 5 (us / 1000) (lit≤ tt) (omega arith)
@@ -63,12 +73,20 @@ time-text us h = let t = trimmed (us % 1000) (omega arith) in go (t .0) (t .1) (
     v : us / 1000 ≡ valueOf (countText (us / 1000))
     v = count-value (us / 1000) (omega arith)
 
-    go : (k y : ℕ) → Trimmed (us % 1000) k y → StatesTime (timeText us) us
-    go zero y t = rw (time-plain us zero y (t .is) refl) (whole {v = us} q (omega (arith, v, t .small, t .worth)))
+    go : (k y : ℕ) → Trimmed (us % 1000) k y → Types (timeText us) (us * 1000)
+    go zero y t = rw (time-plain us zero y (t .is) refl) (whole {ns = us * 1000} q (omega (arith, v, t .small, t .worth)))
     go (suc k) y t =
         let n = digits-length (suc k) y in
+        let m = millionths (suc k) (us % 1000) y (t .few) (t .worth) in
         rw (time-point us (suc k) y (t .is) (λ z. omega arith))
-        (Spelling.pointed {v = us} q (digits-to 3 (suc k) y (omega arith) (t .few)) (rw (n, ← digits-value (suc k) y (t .small), ← v, ← t .worth) (omega arith)))
+        (Spelling.pointed {ns = us * 1000} q (digits-to 6 (suc k) y (omega arith) (omega (arith, t .few))) (rw (n, ← digits-value (suc k) y (t .small), ← v, ← m) (omega arith)))
+
+-- a time typed to the microsecond
+abbrev pub exactly : ℕ → Time
+exactly us = record { typed = us * 1000; kept = us }
+
+pub time-text : (way : Rounding) (us : ℕ) → us ≤ 99_999_999 → StatesTime way (timeText us) (exactly us)
+time-text way us h = record { types = time-types us h; keeps = whole-to way us }
 
 -- ---- and is read back
 
@@ -78,8 +96,8 @@ count-back n z h e =
     let f = no-apart-count (countText n) n t z e in
     states-count (countText n ++ z) n (rw f t) ∙ rw f
 
-pub time-back : (us : ℕ) (z : List ℕ) → us ≤ 99_999_999 → ends z ≡ true → timeField (timeText us ++ z) ≡ Value us (length (timeText us))
-time-back us z h e =
-    let t = time-text us h in
-    let f = no-apart-time (timeText us) us t z e in
-    states-time (timeText us ++ z) us (rw f t) ∙ rw f
+pub time-back : (way : Rounding) (us : ℕ) (z : List ℕ) → us ≤ 99_999_999 → ends z ≡ true → timeField way (timeText us ++ z) ≡ Value us (length (timeText us))
+time-back way us z h e =
+    let t = time-text way us h in
+    let f = no-apart-time (timeText us) (us * 1000) (t .types) z e in
+    states-time way (timeText us ++ z) (exactly us) (rw f t) ∙ rw f

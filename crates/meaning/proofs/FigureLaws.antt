@@ -18,7 +18,7 @@ use Rattle.table.specs.Limits.{maxTasks, maxResources}
 use Rattle.table.specs.Empty.{unusedPair}
 use Rattle.table.specs.At.{noTask, totalOf}
 use Rattle.table.specs.Accepted.{GoodPair, GoodTask, Accepted}
-use Rattle.meaning.specs.Figures.{UseFigures, TaskFigures, Figures, GoodUses, GoodTaskFigures, GoodTasks, GoodFigures, pairFor, taskOf, taskFor, tableOf}
+use Rattle.meaning.specs.Figures.{UseFigures, TaskFigures, Figures, GoodUses, GoodTaskFigures, GoodTasks, GoodFigures, pairIn, pairFor, taskOf, taskFor, tableOf}
 use Rattle.basics.proofs.RowLaws.{row-at}
 
 good-pair : {C last sum : ℕ} {us : List UseFigures} (k : ℕ) → GoodUses C last sum us → (pairFor us k ≡ unusedPair) ⊎ GoodPair (pairFor us k)
@@ -26,7 +26,7 @@ good-pair k GoodUses.no-use = inl refl
 good-pair k (GoodUses.one-use {u = u} {us = us} a b g f r) = go (eqb (u .K) (suc k)) (good-pair k r)
   where
     go : (t : Bool) → (pairFor us k ≡ unusedPair) ⊎ GoodPair (pairFor us k)
-        → let p = pick t (u .pair) (pairFor us k) in (p ≡ unusedPair) ⊎ GoodPair p
+        → let p = pick t (pairIn u) (pairFor us k) in (p ≡ unusedPair) ⊎ GoodPair p
     go true ih = inr g
     go false ih = ih
 
@@ -56,11 +56,11 @@ total-le false p q = omega arith
 good-sum : {C last sum : ℕ} {us : List UseFigures} → GoodUses C last sum us → sum ≤ C → sum + sumTo maxResources (totalFor us) ≤ C
 good-sum GoodUses.no-use h = omega (arith, sum-bound maxResources 0 (totalFor []) (λ k l. omega arith))
 good-sum (GoodUses.one-use {u = u} {us = us} a b g f r) h =
-    let v = u .pair .total in
+    let v = u .CT .kept in
     omega (
       arith,
       good-sum r f,
-      sum-le maxResources (totalFor (u ∷ us)) (λ (k : ℕ). alone (u .K) v k + totalFor us k) (λ k l. total-le (eqb (u .K) (suc k)) (u .pair) (pairFor us k)),
+      sum-le maxResources (totalFor (u ∷ us)) (λ (k : ℕ). alone (u .K) v k + totalFor us k) (λ k l. total-le (eqb (u .K) (suc k)) (pairIn u) (pairFor us k)),
       sum-add maxResources (alone (u .K) v) (totalFor us),
       alone-sum maxResources (u .K) v .1,
     )

@@ -17,6 +17,10 @@ use Rattle.table.specs.declared.Refusal.{Refusal}
 use Rattle.table.specs.declared.Checked.the-variants.{Fine, Refused}
 use Rattle.table.specs.declared.Fault.the-variants.{BadForm, NoTask}
 use Rattle.table.specs.Limits.{maxTasks}
+use Rattle.field.specs.declared.Rounding.{Rounding}
+use Rattle.field.specs.declared.Rounding.the-variants.{Down, Up}
+use Rattle.field.specs.Spelling.{Time}
+use Rattle.field.proofs.Spelled.{StatesKept}
 use Rattle.line.specs.declared.Past.{Past}
 use Rattle.line.specs.declared.Said.{Said}
 use Rattle.line.specs.declared.Said.the-variants.{Task as TaskLine, Use}
@@ -49,19 +53,26 @@ pub record Stating (past : Past) (s : List ℕ) (t u : Table) : Type 0 where
   pub few : past .tasks + length tasks ≤ maxTasks
   pub table : u ≡ storeTasks (storeUses t (past .tasks) uses) (past .tasks) tasks
 
+-- the time that a field states
+abbrev time : {way : Rounding} {w : List ℕ} {v : ℕ} → StatesKept way w v → ℕ → Time
+time k v = record { typed = k .typed; kept = v }
+
 module _ {l s : List ℕ} (a : Start l s) (past : Past) {t u : Table} where
-  task-states : {T C D : ℕ} → form (bytes "task") 4 l ≡ true → TaskRules past (timeIn l 1) (timeIn l 2) (timeIn l 3) T C D
+  task-states : {T C D : ℕ} → form (bytes "task") 4 l ≡ true → TaskRules past (timeIn Down l 1) (timeIn Up l 2) (timeIn Down l 3) T C D
       → Stating (fresh (past .tasks + 1) C) (a .rest) (tableAfter t (past .tasks) (TaskLine T C D)) u → Stating past s t u
   task-states {T} {C} {D} f r m =
       let line = lineOf "task" (listed 3 0 (others l)) in
+      let period = time-in l 0 Down (r .period) in
+      let run = time-in l 1 Up (r .run) in
+      let deadline = time-in l 2 Down (r .deadline) in
       record {
         uses = [];
-        tasks = record { T = T; C = C; D = D; uses = m .uses } ∷ m .tasks;
+        tasks = record { T = time period T; C = time run C; D = time deadline D; uses = m .uses } ∷ m .tasks;
         first = [];
         second = line ++ (m .first ++ m .second);
         text = start-text a (bytes "task") 3 f ∙ ap (λ (x : List ℕ). line ++ x) (m .text);
         states-uses = StatesUses.no-use;
-        states-tasks = task-line (time-in l 0 (r .period)) (time-in l 1 (r .run)) (time-in l 2 (r .deadline)) (m .states-uses) (m .states-tasks);
+        states-tasks = task-line (period .states) (run .states) (deadline .states) (m .states-uses) (m .states-tasks);
         good-uses = GoodUses.no-use;
         good-tasks = GoodTasks.one-task (record { times = r .times; uses = m .good-uses }) (m .good-tasks);
         some = omega arith;
@@ -69,18 +80,20 @@ module _ {l s : List ℕ} (a : Start l s) (past : Past) {t u : Table} where
         table = m .table;
       }
 
-  use-states : {K : Resource} {p : Pair} → form (bytes "use") 5 l ≡ true → UseRules past (countIn l 1) (countIn l 2) (timeIn l 3) (timeIn l 4) K p
+  use-states : {K : Resource} {p : Pair} → form (bytes "use") 5 l ≡ true → UseRules past (countIn l 1) (countIn l 2) (timeIn Up l 3) (timeIn Up l 4) K p
       → Stating (record { tasks = past .tasks; run = past .run; last = K; sum = past .sum + p .total }) (a .rest) (tableAfter t (past .tasks) (Use K p)) u
       → Stating past s t u
   use-states {K} {p} f r m =
       let line = lineOf "use" (listed 4 0 (others l)) in
+      let longest = time-in l 2 Up (r .longest) in
+      let total = time-in l 3 Up (r .total) in
       record {
-        uses = record { K = K .0; pair = p } ∷ m .uses;
+        uses = record { K = K .0; N = p .requests; c = time longest (p .longest); CT = time total (p .total) } ∷ m .uses;
         tasks = m .tasks;
         first = line ++ m .first;
         second = m .second;
         text = start-text a (bytes "use") 4 f ∙ rw (m .text, append-assoc line (m .first) (m .second));
-        states-uses = use-line (count-in l 0 (r .resource)) (count-in l 1 (r .requests)) (time-in l 2 (r .longest)) (time-in l 3 (r .total)) (m .states-uses);
+        states-uses = use-line (count-in l 0 (r .resource)) (count-in l 1 (r .requests)) (longest .states) (total .states) (m .states-uses);
         states-tasks = m .states-tasks;
         good-uses = GoodUses.one-use (r .rising) (r .most) (r .good) (r .fits) (m .good-uses);
         good-tasks = m .good-tasks;

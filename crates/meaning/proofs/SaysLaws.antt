@@ -13,6 +13,7 @@ use Rattle.table.specs.declared.Resource.{Resource}
 use Rattle.table.specs.Limits.{maxCpus, maxTasks, maxResources}
 use Rattle.table.proofs.RuleLaws.{times-fine, used-range, used-totals}
 use Rattle.field.specs.declared.Field.{Field}
+use Rattle.field.specs.declared.Rounding.the-variants.{Down, Up}
 use Rattle.line.specs.declared.Past.{Past}
 use Rattle.line.specs.declared.Said.the-variants.{Cpus, Task as TaskLine, Use}
 use Rattle.line.specs.Fields.{fieldCount, form}
@@ -51,13 +52,13 @@ module _ (past : Past) (n : ℕ) (s : List ℕ) where
   unfolding lineSays
   says-cpus f e r = rw (f, e) (cpus-said 1 r)
 
-  pub says-task : {T C D : ℕ} → form (bytes "task") 4 s ≡ true → 1 < n → TaskRules past (timeIn s 1) (timeIn s 2) (timeIn s 3) T C D
+  pub says-task : {T C D : ℕ} → form (bytes "task") 4 s ≡ true → 1 < n → TaskRules past (timeIn Down s 1) (timeIn Up s 2) (timeIn Down s 3) T C D
       → lineSays past n s ≡ TaskLine T C D
   unfolding lineSays
   says-task f h r = rw (form-other (bytes "task") (bytes "cpus") 4 2 s f refl, f, lt-ltb 1 n h) (task-said n r)
 
   pub says-use : {K : Resource} {p : Pair} → form (bytes "use") 5 s ≡ true → 0 < past .tasks
-      → UseRules past (countIn s 1) (countIn s 2) (timeIn s 3) (timeIn s 4) K p → lineSays past n s ≡ Use K p
+      → UseRules past (countIn s 1) (countIn s 2) (timeIn Up s 3) (timeIn Up s 4) K p → lineSays past n s ≡ Use K p
   unfolding lineSays
   says-use f h r =
       rw (form-other (bytes "use") (bytes "cpus") 5 2 s f refl, form-other (bytes "use") (bytes "task") 5 4 s f refl, f, lt-ltb 0 (past .tasks) h)

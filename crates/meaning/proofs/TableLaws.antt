@@ -17,7 +17,7 @@ use Rattle.table.specs.At.{noTask}
 use Rattle.line.specs.declared.Said.the-variants.{Task as TaskLine, Use}
 use Rattle.listing.specs.Read.{newTask, withPair, tableAfter}
 use Rattle.basics.specs.Over.{rowTo}
-use Rattle.meaning.specs.Figures.{UseFigures, TaskFigures, GoodTaskFigures, GoodTasks, taskOf, taskFor, tableOf}
+use Rattle.meaning.specs.Figures.{UseFigures, TaskFigures, GoodTaskFigures, GoodTasks, pairIn, taskOf, taskFor, tableOf}
 use Rattle.basics.proofs.RowLaws.{row-is}
 use Rattle.meaning.proofs.PairRows.{putPairs, pairs-stored}
 
@@ -59,11 +59,11 @@ table m n row = record { cpus = m; n = n; tasks = row }
 -- after `tasks` tasks
 abbrev pub storeUses : Table → ℕ → List UseFigures → Table
 storeUses t tasks [] = t
-storeUses t tasks (u ∷ us) = storeUses (tableAfter t tasks (Use (record { 0 = u .K }) (u .pair))) tasks us
+storeUses t tasks (u ∷ us) = storeUses (tableAfter t tasks (Use (record { 0 = u .K }) (pairIn u))) tasks us
 
 abbrev pub storeTasks : Table → ℕ → List TaskFigures → Table
 storeTasks t tasks [] = t
-storeTasks t tasks (x ∷ xs) = storeTasks (storeUses (tableAfter t tasks (TaskLine (x .T) (x .C) (x .D))) (tasks + 1) (x .uses)) (tasks + 1) xs
+storeTasks t tasks (x ∷ xs) = storeTasks (storeUses (tableAfter t tasks (TaskLine (x .T .kept) (x .C .kept) (x .D .kept))) (tasks + 1) (x .uses)) (tasks + 1) xs
 
 abbrev withPairs : Task → List Pair → Task
 withPairs x ps = record { period = x .period; run = x .run; deadline = x .deadline; pairs = ps }
@@ -78,11 +78,11 @@ module _ (m n i : ℕ) (row : List Task) (h : i < length row) where
   uses-stored : (x : Task) (us : List UseFigures) → storeUses (table m n (set row i x)) (i + 1) us ≡ table m n (set row i (withPairs x (putPairs (x .pairs) us)))
   uses-stored x [] = refl
   uses-stored x (u ∷ us) =
-      ap (λ (t : Table). storeUses t (i + 1) us) (use-stored x (record { 0 = u .K }) (u .pair)) ∙ uses-stored (withPair x (u .K - 1) (u .pair)) us
+      ap (λ (t : Table). storeUses t (i + 1) us) (use-stored x (record { 0 = u .K }) (pairIn u)) ∙ uses-stored (withPair x (u .K - 1) (pairIn u)) us
 
-  task-stored : (x : TaskFigures) → GoodTaskFigures x → storeUses (table m n (set row i (newTask (x .T) (x .C) (x .D)))) (i + 1) (x .uses) ≡ table m n (set row i (taskOf x))
+  task-stored : (x : TaskFigures) → GoodTaskFigures x → storeUses (table m n (set row i (newTask (x .T .kept) (x .C .kept) (x .D .kept)))) (i + 1) (x .uses) ≡ table m n (set row i (taskOf x))
   unfolding taskOf newTask
-  task-stored x g = uses-stored (newTask (x .T) (x .C) (x .D)) (x .uses) ∙ rw (pairs-stored (g .uses))
+  task-stored x g = uses-stored (newTask (x .T .kept) (x .C .kept) (x .D .kept)) (x .uses) ∙ rw (pairs-stored (g .uses))
 
 rows-stored : (m i : ℕ) (row : List Task) {xs : List TaskFigures} → GoodTasks xs → i + length xs ≤ length row
     → storeTasks (table m i row) i xs ≡ table m (i + length xs) (putTasks row i xs)

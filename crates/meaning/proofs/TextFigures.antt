@@ -20,7 +20,8 @@ use Rattle.table.specs.Limits.{maxTasks, maxResources}
 use Rattle.table.specs.Empty.{unusedPair, emptyTask}
 use Rattle.table.specs.At.{taskAt, pairOf, totalOf}
 use Rattle.table.specs.Accepted.{GoodPair, GoodTask, Accepted}
-use Rattle.meaning.proofs.FieldBack.{count-text, time-text}
+use Rattle.field.specs.declared.Rounding.the-variants.{Down, Up}
+use Rattle.meaning.proofs.FieldBack.{count-text, exactly, time-text}
 use Rattle.meaning.specs.Figures.{UseFigures, TaskFigures, Figures, StatesUses, StatesTasks, StatesFigures, cpus-line, GoodUses, GoodTasks, GoodFigures, pairFor, taskOf, taskFor, tableOf}
 use Rattle.writing.specs.Write.{useText, pairText, taskText, textOf}
 use Rattle.meaning.specs.Back.{clearedTask, cleared}
@@ -58,7 +59,7 @@ module _ {x : Task} {k : ℕ} {s : List ℕ} (r : UsesFrom x (suc k) s) where
   write-use g h p =
       record {
         uses = u ∷ r .uses;
-        states = StatesUses.use-line {u = u} (count-text _ (omega arith)) (count-text _ (omega arith)) (time-text _ (omega arith)) (time-text _ (omega arith)) (r .states);
+        states = StatesUses.use-line {u = u} (count-text _ (omega arith)) (count-text _ (omega arith)) (time-text Up _ (omega arith)) (time-text Up _ (omega arith)) (r .states);
         good = λ last sum a b.
             GoodUses.one-use {last = last} {sum = sum} {u = u} (omega arith) h p (omega (arith, sum-rises (suc k) maxResources (totalOf x) h, g .totals))
             (r .good _ _ (omega arith) (omega arith));
@@ -67,7 +68,7 @@ module _ {x : Task} {k : ℕ} {s : List ℕ} (r : UsesFrom x (suc k) s) where
       }
     where
       u : UseFigures
-      u = record { K = suc k; pair = pairOf x k }
+      u = record { K = suc k; N = pairOf x k .requests; c = exactly (pairOf x k .longest); CT = exactly (pairOf x k .total) }
 
       go : (j : ℕ) → k ≤ j → j < maxResources → Dec (k ≡ j) → pairFor (u ∷ r .uses) j ≡ pairOf x j
       go j a b (yes e) = rw (eq-eqb (suc k) (suc j) (ap suc e), e)
@@ -100,7 +101,7 @@ task-from {t} {k} {s} r h g =
       tasks = y ∷ r .tasks;
       states =
           rw (append-assoc _ (joinTo maxResources (pairText x)) s)
-          (StatesTasks.task-line {x = y} (time-text _ (omega arith)) (time-text _ (omega arith)) (time-text _ (omega arith)) (w .states) (r .states));
+          (StatesTasks.task-line {x = y} (time-text Down _ (omega arith)) (time-text Up _ (omega arith)) (time-text Down _ (omega arith)) (w .states) (r .states));
       good = GoodTasks.one-task (record { times = g .times; uses = w .good 0 0 (omega arith) (omega arith) }) (r .good);
       count = omega arith;
       at = at;
@@ -113,7 +114,7 @@ task-from {t} {k} {s} r h g =
     w = uses-from x g
 
     y : TaskFigures
-    y = record { T = x .period; C = x .run; D = x .deadline; uses = w .uses }
+    y = record { T = exactly (x .period); C = exactly (x .run); D = exactly (x .deadline); uses = w .uses }
 
     at : (i j : ℕ) → j ≡ k + i → taskFor (y ∷ r .tasks) i ≡ pick (ltb j (t .n)) (clearedTask (taskAt t j)) emptyTask
     at zero j e =

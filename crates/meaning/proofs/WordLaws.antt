@@ -10,8 +10,9 @@ use lib.Seq.{drop-cons}
 use borrow.Author.Tests.{eq-eqb}
 use Rattle.basics.specs.Choice.{pick}
 use Rattle.field.specs.Number.{apart, first, timeField, countField}
-use Rattle.field.specs.Spelling.{StatesTime, StatesCount}
-use Rattle.field.proofs.Spelled.{count-states, time-states, states-count, states-time, no-apart-count, no-apart-time, some-count, some-time}
+use Rattle.field.specs.declared.Rounding.{Rounding}
+use Rattle.field.specs.Spelling.{Time, StatesTime, StatesCount}
+use Rattle.field.proofs.Spelled.{count-states, StatesKept, time-states, states-count, states-time, no-apart-count, no-apart-time, some-count, some-time}
 use Rattle.line.specs.Fields.{others, fields, filled, fieldCount, same, form}
 use Rattle.basics.specs.Text.{ending}
 use Rattle.line.proofs.FieldLaws.{form-fields}
@@ -79,18 +80,19 @@ module _ (l : List ℕ) (i : ℕ) {v : ℕ} where
   pub count-in : Stated (countField (getD (others l) i [])) v → StatesCount (getD (others l) i []) v
   count-in e = rw (field-alone l i) at (count-states (getD (others l) i []) v (e .width) (e .is))
 
-  pub time-in : Stated (timeField (getD (others l) i [])) v → StatesTime (getD (others l) i []) v
-  time-in e = rw (field-alone l i) at (time-states (getD (others l) i []) v (e .width) (e .is))
+  pub time-in : (way : Rounding) → Stated (timeField way (getD (others l) i [])) v → StatesKept way (getD (others l) i []) v
+  time-in way e = rw (field-alone l i) at (time-states way (getD (others l) i []) v (e .width) (e .is))
 
 module _ {w : List ℕ} {v : ℕ} where
   pub count-word : StatesCount w v → Word w
   count-word c = record { alone = rw append-nil at (no-apart-count w v c [] refl); some = some-count w v c }
 
-  pub time-word : StatesTime w v → Word w
-  time-word c = record { alone = rw append-nil at (no-apart-time w v c [] refl); some = some-time w v c }
-
   pub count-stated : StatesCount w v → Stated (countField w) v
   count-stated c = record { width = length (first w); is = states-count w v (rw (count-word c .alone) c) }
 
-  pub time-stated : StatesTime w v → Stated (timeField w) v
-  time-stated c = record { width = length (first w); is = states-time w v (rw (time-word c .alone) c) }
+module _ {way : Rounding} {w : List ℕ} {x : Time} where
+  pub time-word : StatesTime way w x → Word w
+  time-word t = record { alone = rw append-nil at (no-apart-time w (x .typed) (t .types) [] refl); some = some-time w (x .typed) (t .types) }
+
+  pub time-stated : StatesTime way w x → Stated (timeField way w) (x .kept)
+  time-stated t = record { width = length (first w); is = states-time way w x (rw (time-word t .alone) t) }

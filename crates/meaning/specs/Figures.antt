@@ -13,19 +13,22 @@ use Rattle.table.specs.declared.Table.{Table}
 use Rattle.table.specs.Limits.{maxCpus, maxTasks, maxResources}
 use Rattle.table.specs.Empty.{unusedPair, emptyTask}
 use Rattle.table.specs.Accepted.{GoodTimes, GoodPair}
-use Rattle.field.specs.Spelling.{StatesTime, StatesCount}
+use Rattle.field.specs.declared.Rounding.the-variants.{Down, Up}
+use Rattle.field.specs.Spelling.{Time, StatesTime, StatesCount}
 
 -- ---- figures
 
--- K, with N, c and CT
+-- K, N, c and CT
 pub record UseFigures : Type 0 where
   pub K : ℕ
-  pub pair : Pair
+  pub N : ℕ
+  pub c : Time
+  pub CT : Time
 
 pub record TaskFigures : Type 0 where
-  pub T : ℕ
-  pub C : ℕ
-  pub D : ℕ
+  pub T : Time
+  pub C : Time
+  pub D : Time
   pub uses : List UseFigures
 
 pub record Figures : Type 0 where
@@ -33,35 +36,40 @@ pub record Figures : Type 0 where
   pub tasks : List TaskFigures
 
 -- ---- which listings state them: `cpus M`, then each task followed by its `use` lines
+-- "A run time, longest request or total (C, c, CT) is rounded up to the microsecond; a period or deadline (T, D) is rounded down" (document 02, 1/12)
 
 pub data StatesUses : List ℕ → List UseFigures → Type 0 where
   no-use : StatesUses [] []
   use-line : {k n c ct rest : List ℕ} {u : UseFigures} {us : List UseFigures}
-      → StatesCount k (u .K) → StatesCount n (u .pair .requests) → StatesTime c (u .pair .longest) → StatesTime ct (u .pair .total)
+      → StatesCount k (u .K) → StatesCount n (u .N) → StatesTime Up c (u .c) → StatesTime Up ct (u .CT)
       → StatesUses rest us → StatesUses (lineOf "use" (k ∷ n ∷ c ∷ ct ∷ []) ++ rest) (u ∷ us)
 
 pub data StatesTasks : List ℕ → List TaskFigures → Type 0 where
   no-task : StatesTasks [] []
   task-line : {t c d uses rest : List ℕ} {x : TaskFigures} {xs : List TaskFigures}
-      → StatesTime t (x .T) → StatesTime c (x .C) → StatesTime d (x .D) → StatesUses uses (x .uses)
+      → StatesTime Down t (x .T) → StatesTime Up c (x .C) → StatesTime Down d (x .D) → StatesUses uses (x .uses)
       → StatesTasks rest xs → StatesTasks (lineOf "task" (t ∷ c ∷ d ∷ []) ++ (uses ++ rest)) (x ∷ xs)
 
 pub data StatesFigures : List ℕ → Figures → Type 0 where
   cpus-line : {m rest : List ℕ} {f : Figures} → StatesCount m (f .M) → StatesTasks rest (f .tasks)
       → StatesFigures (lineOf "cpus" (m ∷ []) ++ rest) f
 
--- ---- the rules that they obey ("Quantities")
+-- ---- the rules that they obey ("Quantities"): "4, 5 and 7 are decided on the rounded values"
+
+-- the pair that a `use` line is kept as
+abbrev pub pairIn : UseFigures → Pair
+pairIn u = record { requests = u .N; longest = u .c .kept; total = u .CT .kept }
 
 -- the uses of a task with run time C, after one of resource `last`, with the CT so far
 pub data GoodUses (C : ℕ) : ℕ → ℕ → List UseFigures → Type 0 where
   no-use : {last sum : ℕ} → GoodUses C last sum []
   one-use : {last sum : ℕ} {u : UseFigures} {us : List UseFigures}
-      → last < u .K → u .K ≤ maxResources → GoodPair (u .pair) → sum + u .pair .total ≤ C
-      → GoodUses C (u .K) (sum + u .pair .total) us → GoodUses C last sum (u ∷ us)
+      → last < u .K → u .K ≤ maxResources → GoodPair (pairIn u) → sum + u .CT .kept ≤ C
+      → GoodUses C (u .K) (sum + u .CT .kept) us → GoodUses C last sum (u ∷ us)
 
 pub record GoodTaskFigures (x : TaskFigures) : Type 0 where
-  pub times : GoodTimes (x .T) (x .C) (x .D)
-  pub uses : GoodUses (x .C) 0 0 (x .uses)
+  pub times : GoodTimes (x .T .kept) (x .C .kept) (x .D .kept)
+  pub uses : GoodUses (x .C .kept) 0 0 (x .uses)
 
 pub data GoodTasks : List TaskFigures → Type 0 where
   no-task : GoodTasks []
@@ -79,10 +87,10 @@ pub record GoodFigures (f : Figures) : Type 0 where
 -- the pair with resource k + 1
 abbrev pub pairFor : List UseFigures → ℕ → Pair
 pairFor [] k = unusedPair
-pairFor (u ∷ us) k = pick (eqb (u .K) (suc k)) (u .pair) (pairFor us k)
+pairFor (u ∷ us) k = pick (eqb (u .K) (suc k)) (pairIn u) (pairFor us k)
 
 unfoldable pub taskOf : TaskFigures → Task
-taskOf x = record { period = x .T; run = x .C; deadline = x .D; pairs = rowTo maxResources (pairFor (x .uses)) }
+taskOf x = record { period = x .T .kept; run = x .C .kept; deadline = x .D .kept; pairs = rowTo maxResources (pairFor (x .uses)) }
 
 -- task i + 1
 abbrev pub taskFor : List TaskFigures → ℕ → Task

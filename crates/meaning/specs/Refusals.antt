@@ -15,6 +15,7 @@ use Rattle.table.specs.declared.Refusal.{Refusal}
 use Rattle.table.specs.Limits.{maxCpus, maxTasks, maxResources, maxListing}
 use Rattle.table.specs.Faults.{Told, Refuses}
 use Rattle.table.specs.Rules.{timesInRange, timesInOrder, usedInRange, totalsFit}
+use Rattle.field.specs.declared.Rounding.the-variants.{Down, Up}
 use Rattle.line.specs.declared.Past.{Past}
 use Rattle.line.specs.declared.Said.{Said}
 use Rattle.line.specs.declared.Said.the-variants.{Task as TaskLine, Not}
@@ -61,13 +62,13 @@ unfoldable pub lineRules : Past → ℕ → List ℕ → List Rule
 lineRules past n s =
     let kind = kindOf past n s in
     let M = countIn s 1 in
-    let T = timeIn s 1 in
-    let C = timeIn s 2 in
-    let D = timeIn s 3 in
+    let T = timeIn Down s 1 in
+    let C = timeIn Up s 2 in
+    let D = timeIn Down s 3 in
     let K = countIn s 1 in
     let N = countIn s 2 in
-    let c = timeIn s 3 in
-    let CT = timeIn s 4 in
+    let c = timeIn Up s 3 in
+    let CT = timeIn Up s 4 in
     let p : Pair = record { requests = value N; longest = value c; total = value CT } in
     -- "line not of its form or place"
     rule 2 (known kind)

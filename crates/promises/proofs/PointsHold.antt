@@ -12,7 +12,7 @@ use Rattle.table.specs.declared.Checked.the-variants.{Fine}
 use Rattle.table.specs.Empty.{emptyTask, emptyTable}
 use Rattle.table.specs.Faults.{firstFault}
 use Rattle.table.specs.Rules.{timesInRange, timesInOrder, timesFault, isUnused, usedInRange, pairInRange, totalsFit, pairFault, pairsFault, taskFault, tasksFault, tableFault}
-use Rattle.field.specs.Number.{fraction, timeField, countField}
+use Rattle.field.specs.Number.{rounded, fraction, timeField, countField}
 use Rattle.put.specs.Text.{width, countText}
 use Rattle.line.specs.Fields.{fieldCount}
 use Rattle.line.specs.Line.{cpusLine, taskLine, useLine, lineSays}
@@ -43,7 +43,7 @@ three s a b c e n p q r =
     ∙ rw (n, p, q, r)
 
 pub points-hold : All points
-unfolding Holds points sumTo maxTo firstTo emptyTask emptyTable firstFault timesInRange timesInOrder timesFault isUnused usedInRange pairInRange totalsFit pairFault pairsFault taskFault tasksFault tableFault fraction timeField countField width countText fieldCount cpusLine taskLine useLine lineSays pastAfter newTask tableAfter readEnd readLines readListing workload jobs ceilDiv ceiling sharedCT otherCT allCT highCT DB S O F L demandWith climb verdictText rowText
+unfolding Holds points sumTo maxTo firstTo emptyTask emptyTable firstFault timesInRange timesInOrder timesFault isUnused usedInRange pairInRange totalsFit pairFault pairsFault taskFault tasksFault tableFault rounded fraction timeField countField width countText fieldCount cpusLine taskLine useLine lineSays pastAfter newTask tableAfter readEnd readLines readListing workload jobs ceilDiv ceiling sharedCT otherCT allCT highCT DB S O F L demandWith climb verdictText rowText
 points-hold =
     (let s : String = "cpus 2\ntask 10 2.5 10\nuse 1 1 0.5 0.5\ntask 20 4 15\ntask 30 6 30\nuse 1 2 0.75 1.5\n" in
     three s (Meets 3_250) (Meets 4_000) (Meets 14_500) refl refl

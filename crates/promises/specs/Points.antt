@@ -5,7 +5,9 @@ use mathlib.Core.Path.{_≡_}
 use mathlib.Core.List.{List, [], _∷_}
 use lib.ListN.{length}
 use Rattle.basics.specs.Text.{bytes}
+use Rattle.field.specs.declared.Field.{Field}
 use Rattle.field.specs.declared.Field.the-variants.{Value}
+use Rattle.field.specs.declared.Rounding.the-variants.{Down, Up}
 use Rattle.field.specs.Number.{timeField}
 use Rattle.theory.specs.Work.{workload}
 use Rattle.page.specs.Report.{reportText}
@@ -15,13 +17,15 @@ pub data Point : Type 0 where
   reports : String → String → Point
   -- T, D, t, x, and the workload
   loads : ℕ → ℕ → ℕ → ℕ → ℕ → Point
-  -- a field, and the microseconds that it reads as
+  -- a field, and the microseconds that it reads as, whichever way it is rounded
   reads : String → ℕ → Point
 
 unfoldable pub Holds : Point → Type 0
 Holds (reports listing text) = reportText (bytes listing) ≡ bytes text
 Holds (loads T D t x w) = workload T D t x ≡ w
-Holds (reads text us) = timeField (bytes text) ≡ Value us (length (bytes text))
+Holds (reads text us) =
+    let value = Value us (length (bytes text)) in
+    _≡_ {A = Field × Field} (timeField Down (bytes text), timeField Up (bytes text)) (value, value)
 
 infixr 10 _and_
 pub data All : List Point → Type 0 where

@@ -1,9 +1,6 @@
 -- `field::fraction_at` meets its contract: each `return` is a law of `fraction`. Assumes nothing.
-use Prim.Native.Nat.{_<_}
 use mathlib.Core.Path.{_≡_, sym, ap, _∙_}
 use native.Mathlib.Omega.{arith}
-use native.Mathlib.Nat.{pow-le-pow-right}
-use lib.Dec.{lit<}
 use lib.ListN.{drop}
 use lib.Seq.{drop-drop}
 use Rattle.basics.proofs.ChoiceLaws.{stops, passes}
@@ -11,7 +8,7 @@ use Rattle.field.specs.declared.Run.the-variants.{Of}
 use Rattle.field.specs.Number.{ends}
 use Rattle.field.specs.Runs.{runOf}
 use Rattle.field.proofs.DigitLaws.{run-small}
-use Rattle.field.proofs.FoundLaws.{fraction-long, fraction-none, fraction-high, fraction-open, fraction-ok}
+use Rattle.field.proofs.FoundLaws.{fraction-long, fraction-none, fraction-open, fraction-ok}
 use borrow.Author.Needs.{needs}
 use Rattle.field.proofs.fraction_at.Statement.{statement}
 use Rattle.field.proofs.fraction_at.Tie as tie
@@ -19,41 +16,38 @@ use Rattle.field.proofs.fraction_at.Tie as tie
 -- what the run says
 of-run : (c : tie.After-n)
     → let a = c .before .before .before .before .args in
-    Of (c .n .given .0 .0) (c .n .given .0 .1 .0) ≡ runOf (drop (a .at) (a .s .now))
+    Of (c .n .given .0 .0) (c .n .given .0 .1 .0) ≡ runOf 6 (drop (a .at) (a .s .now))
 of-run c = sym (c .n .given .1) ∙ c .before .before .leading-at .ensures
 
 -- the end of the fraction, as the code and as the definition say it
 at-end : (c : tie.After-ends-at)
-    → let b = c .before .before .before .before in
+    → let b = c .before .before .before in
     let a = b .before .before .before .before .args in
     c .ends-at .result ≡ ends (drop (b .n .given .0 .0) (drop (a .at) (a .s .now)))
 at-end c =
-    let b = c .before .before .before .before in
+    let b = c .before .before .before in
     let a = b .before .before .before .before .args in
     c .ends-at .ensures ∙ ap ends (sym (drop-drop (b .n .given .0 .0) (a .at) (a .s .now)))
 
 returns : tie.Need-returns
-returns c = fraction-long _ _ _ (sym (c .enum-told .given .1) ∙ c .before .before .leading-at .ensures)
+returns c = fraction-long _ _ _ _ (sym (c .enum-told .given .1) ∙ c .before .before .leading-at .ensures)
 
 returns-2 : tie.Need-returns-2
-returns-2 c = fraction-none _ _ _ _ _ (of-run (c .before .before)) (c .if1 .taken)
+returns-2 c = fraction-none _ _ _ _ _ _ (of-run (c .before .before)) (c .if1 .taken)
+
+add-end : tie.Need-add-end
+add-end c = omega (arith, run-small 6 _ _ _ (of-run (c .before .before)))
 
 returns-3 : tie.Need-returns-3
-returns-3 c = fraction-high _ _ _ _ _ (of-run (c .before .before .before)) (omega arith)
+returns-3 c = fraction-open _ _ _ _ _ _ (of-run (c .before .before .before .before)) (stops (at-end (c .before)) (c .if2 .taken))
+
+millionths-requires : tie.Need-millionths-requires
+millionths-requires c κs = let r = run-small 6 _ _ _ (of-run (c .before .before .before .before)) in (r .0, r .1)
 
 returns-4 : tie.Need-returns-4
-returns-4 c = fraction-open _ _ _ _ _ (of-run (c .before .before .before .before .before)) (stops (at-end (c .before)) (c .if3 .taken))
-
-thousandths-requires : tie.Need-thousandths-requires
-thousandths-requires c κs =
-    let n = c .before .before .before .before .before in
-    let b : n .n .given .0 .1 .0 < 1000 = omega (arith, run-small _ _ _ (of-run n), pow-le-pow-right {n = 10} (lit< tt) {i = n .n .given .0 .0} {j = 3} (c .before .before .if2 .left)) in
-    omega arith
-
-returns-5 : tie.Need-returns-5
-returns-5 c =
-    let b = c .before .before .before .before in
-    fraction-ok _ _ _ _ _ (of-run (b .before .before)) _ (c .thousandths .ensures .0) (b .if1 .left) (c .before .before .before .if2 .left) (passes (at-end (c .before .before)) (c .before .if3 .left))
+returns-4 c =
+    let b = c .before .before .before .before .before in
+    fraction-ok _ _ _ _ _ _ (of-run (b .before)) _ _ (c .before .millionths .ensures .0) (c .micros .ensures .0) (c .before .before .before .before .if1 .left) (passes (at-end (c .before .before .before)) (c .before .before .if2 .left))
 
 pub fraction-at-spec : {M : Type 1} → statement M
 fraction-at-spec =
@@ -64,11 +58,11 @@ fraction-at-spec =
     (λ c. search needs)
     returns
     returns-2
+    add-end
+    (λ c κs. search needs)
     returns-3
     (λ c. search needs)
+    millionths-requires
     (λ c κs. search needs)
-    returns-4
     (λ c. search needs)
-    thousandths-requires
-    (λ c. search needs)
-    returns-5)
+    returns-4)

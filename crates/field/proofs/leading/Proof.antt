@@ -9,10 +9,10 @@ use Rattle.field.proofs.leading.Statement.{statement}
 use Rattle.field.proofs.leading.Tie as tie
 
 abbrev Inv-loop : tie.InvT-loop
-Inv-loop s n₀ v₀ n v = (n ≤ length s) × (n ≤ 5) × (n + length (digits (drop n s)) ≡ length (digits s)) × (number v (digits (drop n s)) ≡ number 0 (digits s)) × (v < 10 ^ n)
+Inv-loop s most n₀ v₀ n v = (n ≤ length s) × (n ≤ most) × (n + length (digits (drop n s)) ≡ length (digits s)) × (number v (digits (drop n s)) ≡ number 0 (digits s)) × (v < 10 ^ n)
 
 abbrev μ-loop : tie.MeasureT-loop
-μ-loop s n₀ v₀ n v = length s - n
+μ-loop s most n₀ v₀ n v = length s - n
 
 loop-holds : tie.Need-loop-holds Inv-loop μ-loop
 loop-holds c = (omega arith, omega arith, omega arith, refl, omega arith)
@@ -23,17 +23,17 @@ shared-slice-read-b c = omega arith
 returns : tie.Need-returns Inv-loop μ-loop
 returns c =
     let i = c .before .before .before .loop .inv in
-    run-of _ _ _ (i .1) (i .2) (i .3) (digits-low _ _ (c .before .before .loop-test .taken) (c .if1 .taken))
+    run-of _ _ _ _ (i .1) (i .2) (i .3) (digits-low _ _ (c .before .before .loop-test .taken) (c .if1 .taken))
 
 returns-2 : tie.Need-returns-2 Inv-loop μ-loop
 returns-2 c =
     let i = c .before .before .before .before .loop .inv in
-    run-of _ _ _ (i .1) (i .2) (i .3) (digits-high _ _ (c .before .before .before .loop-test .taken) (c .before .if1 .left) (c .if2 .taken))
+    run-of _ _ _ _ (i .1) (i .2) (i .3) (digits-high _ _ (c .before .before .before .loop-test .taken) (c .before .if1 .left) (c .if2 .taken))
 
 returns-3 : tie.Need-returns-3 Inv-loop μ-loop
 returns-3 c =
     let i = c .before .before .before .before .before .loop .inv in
-    run-long _ _ (c .if3 .taken) (i .2) (c .before .before .before .before .loop-test .taken) (c .before .before .if1 .left) (c .before .if2 .left)
+    run-long _ _ _ (c .if3 .taken) (i .2) (c .before .before .before .before .loop-test .taken) (c .before .before .if1 .left) (c .before .if2 .left)
 
 mul-v : tie.Need-mul-v Inv-loop μ-loop
 mul-v c = omega (arith, room (c .before .before .before .before .before .loop .n) (omega arith))
@@ -61,7 +61,7 @@ loop-again c =
 returns-4 : tie.Need-returns-4 Inv-loop μ-loop
 returns-4 c =
     let i = c .before .loop .inv in
-    run-of _ _ _ (i .1) (i .2) (i .3) (digits-none _ _ (c .loop-test .left))
+    run-of _ _ _ _ (i .1) (i .2) (i .3) (digits-none _ _ (c .loop-test .left))
 
 pub leading-spec : {M : Type 1} → statement M
 leading-spec =

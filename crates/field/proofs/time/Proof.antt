@@ -12,37 +12,37 @@ use Rattle.field.proofs.time.Tie as tie
 
 -- what the run says
 of-run : (c : tie.After-n)
-    → Of (c .n .given .0 .0) (c .n .given .0 .1 .0) ≡ runOf (c .before .before .before .before .args .s .now)
+    → Of (c .n .given .0 .0) (c .n .given .0 .1 .0) ≡ runOf 5 (c .before .before .before .before .args .s .now)
 of-run c = sym (c .n .given .1) ∙ c .before .before .leading .ensures
 
 returns : tie.Need-returns
-returns c = time-long _ (sym (c .enum-told .given .1) ∙ c .before .before .leading .ensures)
+returns c = time-long _ _ (sym (c .enum-told .given .1) ∙ c .before .before .leading .ensures)
 
 returns-2 : tie.Need-returns-2
-returns-2 c = time-none _ _ _ (of-run (c .before .before)) (c .if1 .taken)
+returns-2 c = time-none _ _ _ _ (of-run (c .before .before)) (c .if1 .taken)
 
-mul-t7 : tie.Need-mul-t7
-mul-t7 c = omega (arith, run-small _ _ _ (of-run (c .before .before .before .before)))
+mul-t8 : tie.Need-mul-t8
+mul-t8 c = omega (arith, run-small 5 _ _ _ (of-run (c .before .before .before .before)))
 
 returns-3 : tie.Need-returns-3
-returns-3 c = time-whole _ _ _ (of-run (c .before .before .before .before)) (c .before .before .if1 .left) (sym (c .before .ends-at .ensures) ∙ c .if2 .taken)
+returns-3 c = time-whole _ _ _ _ (of-run (c .before .before .before .before)) (c .before .before .if1 .left) (sym (c .before .ends-at .ensures) ∙ c .if2 .taken)
 
 returns-4 : tie.Need-returns-4
 returns-4 c =
     let b = c .before .before in
-    time-other _ _ _ (of-run (b .before .before .before .before)) (sym (b .before .ends-at .ensures) ∙ b .if2 .left) (stops (c .before .point-at .ensures) (c .if3 .taken))
+    time-other _ _ _ _ (of-run (b .before .before .before .before)) (sym (b .before .ends-at .ensures) ∙ b .if2 .left) (stops (c .before .point-at .ensures) (c .if3 .taken))
 
 add-fraction-at : tie.Need-add-fraction-at
-add-fraction-at c = omega (arith, run-small _ _ _ (of-run (c .before .before .before .before .before .before)))
+add-fraction-at c = omega (arith, run-small 5 _ _ _ (of-run (c .before .before .before .before .before .before)))
 
 fraction-at-requires : tie.Need-fraction-at-requires
-fraction-at-requires c κs = omega (arith, run-small _ _ _ (of-run (c .before .before .before .before .before .before)))
+fraction-at-requires c κs = omega (arith, run-small 5 _ _ _ (of-run (c .before .before .before .before .before .before)))
 
 returns-5 : tie.Need-returns-5
 returns-5 c =
     let a = c .before in
     let b = a .before .before in
-    c .fraction-at .ensures ∙ time-fraction _ _ _ (of-run (b .before .before .before .before)) (b .before .before .if1 .left) (sym (b .before .ends-at .ensures) ∙ b .if2 .left) (passes (a .before .point-at .ensures) (a .if3 .left))
+    c .fraction-at .ensures ∙ time-fraction _ _ _ _ (of-run (b .before .before .before .before)) (b .before .before .if1 .left) (sym (b .before .ends-at .ensures) ∙ b .if2 .left) (passes (a .before .point-at .ensures) (a .if3 .left))
 
 pub time-spec : {M : Type 1} → statement M
 time-spec =
@@ -54,7 +54,7 @@ time-spec =
     returns
     returns-2
     (λ c κs. search needs)
-    mul-t7
+    mul-t8
     returns-3
     (λ c κs. search needs)
     returns-4

@@ -2,9 +2,9 @@
 use lib.Dec.{lit≤}
 use native.Mathlib.Omega.{arith}
 use Rattle.basics.specs.Text.{bytes}
-use Rattle.field.specs.Number.{timeField, countField}
+use Rattle.line.specs.declared.FieldKind.the-variants.{Count, TimeUp}
 use Rattle.line.specs.Line.{useLine}
-use Rattle.line.proofs.FieldLaws.{Begins, States, form-second, time-kind, count-kind, bad-field, states, steps}
+use Rattle.line.proofs.FieldLaws.{Begins, States, form-second, bad-field, states, steps}
 use borrow.Author.Needs.{needs}
 use Rattle.line.proofs.use_line.Statement.{statement}
 use Rattle.line.proofs.use_line.Tie as tie
@@ -14,49 +14,49 @@ start : (c : tie.Start) → Begins (c .args .line .now) 1 3 4
 start c = form-second (bytes "use") 3 _ (lit≤ tt) (c .pre)
 
 k : (c : tie.After-k) → let s = c .before .before .before .before .args .line .now in
-    States countField s 1 (c .k .given .0 .0) × Begins s 2 2 (c .k .given .0 .1 .0)
-k c = steps count-kind (start (c .before .before .before .before)) (c .before .before .count-at .ensures) (c .k .given .1)
+    States Count s 1 (c .k .given .0 .0) × Begins s 2 2 (c .k .given .0 .1 .0)
+k c = steps Count (start (c .before .before .before .before)) (c .before .before .field-at .ensures) (c .k .given .1)
 
 requests : (c : tie.After-requests) → let s = c .before .before .before .before .before .before .before .before .args .line .now in
-    States countField s 2 (c .requests .given .0 .0) × Begins s 3 1 (c .requests .given .0 .1 .0)
-requests c = steps count-kind (k (c .before .before .before .before) .1) (c .before .before .count-at2 .ensures) (c .requests .given .1)
+    States Count s 2 (c .requests .given .0 .0) × Begins s 3 1 (c .requests .given .0 .1 .0)
+requests c = steps Count (k (c .before .before .before .before) .1) (c .before .before .field-at2 .ensures) (c .requests .given .1)
 
 longest : (c : tie.After-longest) → let s = c .before .before .before .before .before .before .before .before .before .before .before .before .args .line .now in
-    States timeField s 3 (c .longest .given .0 .0) × Begins s 4 0 (c .longest .given .0 .1 .0)
-longest c = steps time-kind (requests (c .before .before .before .before) .1) (c .before .before .time-at .ensures) (c .longest .given .1)
+    States TimeUp s 3 (c .longest .given .0 .0) × Begins s 4 0 (c .longest .given .0 .1 .0)
+longest c = steps TimeUp (requests (c .before .before .before .before) .1) (c .before .before .field-at3 .ensures) (c .longest .given .1)
 
 total : (c : tie.After-total)
-    → States timeField (c .before .before .before .before .before .before .before .before .before .before .before .before .before .before .before .before .args .line .now) 4 (c .total .given .0 .0)
-total c = states time-kind (longest (c .before .before .before .before) .1) (c .before .before .time-at2 .ensures) (c .total .given .1)
+    → States TimeUp (c .before .before .before .before .before .before .before .before .before .before .before .before .before .before .before .before .args .line .now) 4 (c .total .given .0 .0)
+total c = states TimeUp (longest (c .before .before .before .before) .1) (c .before .before .field-at4 .ensures) (c .total .given .1)
 
 returns : tie.Need-returns
 unfolding useLine
 returns c =
     let b = c .before .before .before in
-    rw (bad-field count-kind (start (b .before .before)) (b .count-at .ensures) (c .before .enum-told .given .1)) (c .refuse .ensures)
+    rw (bad-field Count (start (b .before .before)) (b .field-at .ensures) (c .before .enum-told .given .1)) (c .refuse .ensures)
 
-count-at-requires-2 : tie.Need-count-at-requires-2
-count-at-requires-2 c κs = omega (arith, k (c .before) .1 .near)
+field-at-requires-2 : tie.Need-field-at-requires-2
+field-at-requires-2 c κs = omega (arith, k (c .before) .1 .near)
 
 returns-2 : tie.Need-returns-2
 unfolding useLine
 returns-2 c =
     let b = c .before .before .before in
     let l = k (b .before .before) in
-    rw (l .0 .says, bad-field count-kind (l .1) (b .count-at2 .ensures) (c .before .enum-told2 .given .1)) (c .refuse2 .ensures)
+    rw (l .0 .says, bad-field Count (l .1) (b .field-at2 .ensures) (c .before .enum-told2 .given .1)) (c .refuse2 .ensures)
 
-time-at-requires : tie.Need-time-at-requires
-time-at-requires c κs = omega (arith, requests (c .before) .1 .near)
+field-at-requires-3 : tie.Need-field-at-requires-3
+field-at-requires-3 c κs = omega (arith, requests (c .before) .1 .near)
 
 returns-3 : tie.Need-returns-3
 unfolding useLine
 returns-3 c =
     let b = c .before .before .before in
     let r = b .before .before in
-    rw (k (r .before .before .before .before) .0 .says, requests r .0 .says, bad-field time-kind (requests r .1) (b .time-at .ensures) (c .before .enum-told3 .given .1)) (c .refuse3 .ensures)
+    rw (k (r .before .before .before .before) .0 .says, requests r .0 .says, bad-field TimeUp (requests r .1) (b .field-at3 .ensures) (c .before .enum-told3 .given .1)) (c .refuse3 .ensures)
 
-time-at-requires-2 : tie.Need-time-at-requires-2
-time-at-requires-2 c κs = omega (arith, longest (c .before) .1 .near)
+field-at-requires-4 : tie.Need-field-at-requires-4
+field-at-requires-4 c κs = omega (arith, longest (c .before) .1 .near)
 
 returns-4 : tie.Need-returns-4
 unfolding useLine
@@ -64,7 +64,7 @@ returns-4 c =
     let b = c .before .before .before in
     let l = b .before .before in
     let r = l .before .before .before .before in
-    rw (k (r .before .before .before .before) .0 .says, requests r .0 .says, longest l .0 .says, bad-field time-kind (longest l .1) (b .time-at2 .ensures) (c .before .enum-told4 .given .1)) (c .refuse4 .ensures)
+    rw (k (r .before .before .before .before) .0 .says, requests r .0 .says, longest l .0 .says, bad-field TimeUp (longest l .1) (b .field-at4 .ensures) (c .before .enum-told4 .given .1)) (c .refuse4 .ensures)
 
 returns-5 : tie.Need-returns-5
 unfolding useLine
@@ -82,15 +82,15 @@ use-line-spec =
     (λ c. search needs)
     (λ c. search needs)
     (λ c κs. search needs) returns
-    count-at-requires-2
+    field-at-requires-2
     (λ c. search needs)
     (λ c. search needs)
     (λ c κs. search needs) returns-2
-    time-at-requires
+    field-at-requires-3
     (λ c. search needs)
     (λ c. search needs)
     (λ c κs. search needs) returns-3
-    time-at-requires-2
+    field-at-requires-4
     (λ c. search needs)
     (λ c. search needs)
     (λ c κs. search needs) returns-4
