@@ -20,6 +20,178 @@ use 1 1 0.001 0.001
 use 3 1 0.003 0.003
 ";
 
+/// Case A from a tracer: every time has four to six decimals, and rounded it is case A's.
+pub const TRACED: &str = "cpus 2
+task 10.0009 2.4999 10.000001
+use 1 1 0.499001 0.4995
+task 20.000999 3.99999 15.00001
+task 30.0000 5.999999 30.0001
+use 1 2 0.74901 1.5000
+";
+
+/// Rounded, task 1's D is its C, and task 2 meets at 11.
+pub const ROUNDED: &str = "cpus 1\ntask 0.011 0.009 0.009198\ntask 0.011 0.002 0.011\n";
+
+/// The same a thousand times longer, so that nothing is rounded: task 1's D is above its C, and task 2 misses. So the safe side is that of
+/// each figure, not of the verdicts.
+pub const AS_TYPED: &str = "cpus 1\ntask 11 9 9.198\ntask 11 2 11\n";
+
+/// Times, and what they are in microseconds: rounded down, rounded up.
+pub const SPELLED: &[(&str, u64, u64)] = &[
+    // three decimals or fewer: the same either way
+    ("2", 2_000, 2_000),
+    ("2.5", 2_500, 2_500),
+    ("2.05", 2_050, 2_050),
+    ("2.005", 2_005, 2_005),
+    ("2.500", 2_500, 2_500),
+    // zeros after these change nothing
+    ("2.5000", 2_500, 2_500),
+    ("2.50000", 2_500, 2_500),
+    ("2.500000", 2_500, 2_500),
+    ("00002.005000", 2_005, 2_005),
+    // each digit counts in its place
+    ("2.5001", 2_500, 2_501),
+    ("2.50001", 2_500, 2_501),
+    ("2.500001", 2_500, 2_501),
+    ("2.5009", 2_500, 2_501),
+    ("2.500999", 2_500, 2_501),
+    ("1.234567", 1_234, 1_235),
+    ("2.00005", 2_000, 2_001),
+    // up to the next millisecond, or not
+    ("0.9995", 999, 1_000),
+    ("0.999001", 999, 1_000),
+    ("9.999999", 9_999, 10_000),
+    ("0.9989", 998, 999),
+    // about the least time
+    ("0.0000", 0, 0),
+    ("0.000000", 0, 0),
+    ("0.000001", 0, 1),
+    ("0.0009", 0, 1),
+    ("0.000999", 0, 1),
+    ("0.001", 1, 1),
+    ("0.001000", 1, 1),
+    ("0.001001", 1, 2),
+    ("0.0019", 1, 2),
+    ("0.002000", 2, 2),
+    // about the longest
+    ("9999.9989", 9_999_998, 9_999_999),
+    ("9999.999000", 9_999_999, 9_999_999),
+    ("9999.999001", 9_999_999, 10_000_000),
+    ("9999.999999", 9_999_999, 10_000_000),
+    ("10000.0000", 10_000_000, 10_000_000),
+    ("10000.000000", 10_000_000, 10_000_000),
+    ("10000.000001", 10_000_000, 10_000_001),
+    ("10000.0009", 10_000_000, 10_000_001),
+    ("10000.000999", 10_000_000, 10_000_001),
+    ("10000.001", 10_000_001, 10_000_001),
+    ("10000.001000", 10_000_001, 10_000_001),
+    // the most that can be spelled
+    ("99999.999000", 99_999_999, 99_999_999),
+    ("99999.999999", 99_999_999, 100_000_000),
+];
+
+/// What is no time: seven decimals or more, be they zeros, and what was none before.
+pub const MISSPELLED: &[&str] = &[
+    "2.0000001", "2.5000000", "2.5000001", "2.50000000000000000000", "0.0000001", "0.0009999", "0.0010001", "0.0010000", "9999.9999999", "10000.0000000",
+    "10000.0000001", "10000.0009999", "99999.9999999", "2.", ".5", ".", ".500000", "100000", "100000.000001", "2.5000.", "2.500.000", "2..5000", "2.5000x",
+    "2.50000x", "2.-50000", "2.+50000", "2,500000", "+2.500000",
+];
+
+/// Times beside each other, as lines from the second on, with the refusal of the last line, or 0 if they are accepted.
+pub const BESIDE: &[(u32, &[&str])] = &[
+    // C not above D, nor D above T, as typed and as rounded
+    (0, &[
+        "task 2.5000 2.5000 2.5000",
+        "task 2.500000 2.50000 2.5000",
+        "task 10 2.0000 2.0009",
+        "task 10 1.999001 2.0009",
+        "task 10 2.0001 2.001",
+        "task 0.001999 0.000001 0.001999",
+        "task 10000.000999 9999.999001 10000.000999",
+    ]),
+    // D above T as typed alone
+    (0, &["task 10.0001 1 10.0009", "task 10 1 10.000001", "task 10 1 10.000999"]),
+    // C above D as rounded alone
+    (5, &[
+        "task 10 2.0001 2.0009",
+        "task 10 2.000001 2.000999",
+        "task 10 2.0001 2.0001",
+        "task 2.5001 2.5001 2.5001",
+        "task 10000 9999.999001 9999.999999",
+    ]),
+    // D above T either way
+    (5, &["task 10.0009 1 10.001", "task 10.000999 1 10.0010"]),
+    // 4 comes before 5, and 3 before both
+    (4, &[
+        "task 0.0009 0.000001 0.0009",
+        "task 0.001 0.000001 0.0009",
+        "task 0.0009 0.001 0.001",
+        "task 10000.000999 10000.000001 10000.000999",
+        "task 1 10000.000001 2",
+        "task 10000.001 2.0001 2.0009",
+        "task 99999.999999 99999.999999 99999.999999",
+    ]),
+    (3, &["task 99999.999999 99999.999999 99999.9999999", "task 10 2.0001 2.00000001", "task 0 0 2."]),
+    // c not above CT, nor CT above N times c, as typed and as rounded
+    (0, &[
+        "task 10 5 10\nuse 1 1 0.5001 0.5001",
+        "task 10 5 10\nuse 1 2 0.5001 1.0002",
+        "task 10 5 10\nuse 1 1 2.5000 2.5000",
+        "task 10 0.000001 10\nuse 1 1000 0.000001 0.000001",
+    ]),
+    // one of them above as typed alone
+    (0, &[
+        "task 10 5 10\nuse 1 1 0.5001 0.500001",
+        "task 10 5 10\nuse 1 1 0.500001 0.5001",
+        "task 10 5 10\nuse 1 1 0.5001 0.501",
+        "task 10 5 10\nuse 1 2 0.5001 1.002",
+        "task 10 5 10\nuse 1 1000 0.000001 1",
+        "task 10 5 10\nuse 1 1000 0.000001 0.999001",
+    ]),
+    // one of them above either way
+    (7, &[
+        "task 10 5 10\nuse 1 1 0.5001 0.5",
+        "task 10 5 10\nuse 1 1 0.5001 0.5000",
+        "task 10 5 10\nuse 1 1 0.5 0.5001",
+        "task 10 5 10\nuse 1 1 0.500999 0.501001",
+        "task 10 5 10\nuse 1 2 0.5 1.0001",
+        "task 10 5 10\nuse 1 2 0.5001 1.002001",
+        "task 10 5 10\nuse 1 1000 0.000001 1.000001",
+    ]),
+    // the CT are rounded one by one, and so is C: their sum not above it, above it as typed alone, as rounded alone, either way
+    (0, &[
+        "task 10 1 10\nuse 1 1 0.5001 0.5001\nuse 2 1 0.499 0.499",
+        "task 10 1 10\nuse 1 1 0.5001 0.5001\nuse 2 1 0.498001 0.498001",
+        "task 10 1.000001 10\nuse 1 1 0.5001 0.5001\nuse 2 1 0.4999 0.4999",
+    ]),
+    (0, &["task 10 0.9999 10\nuse 1 1 1 1", "task 10 1.000001 10\nuse 1 1 0.5009 0.5009\nuse 2 1 0.500000 0.500000"]),
+    (7, &[
+        "task 10 1 10\nuse 1 1 0.5001 0.5001\nuse 2 1 0.4999 0.4999",
+        "task 10 1 10\nuse 1 1 0.5001 0.5001\nuse 2 1 0.499001 0.499001",
+        "task 10 1.000999 10\nuse 1 1 0.5001 0.5001\nuse 2 1 0.500001 0.500001",
+    ]),
+    (7, &["task 10 1 10\nuse 1 1 1.000001 1.000001"]),
+    // 3 comes before all, 4 before 6, and 6 before 7
+    (3, &["task 10 1 10\nuse 1 1 0.5 0.5\nuse 0 1 0.2001 0.2000001"]),
+    (4, &[
+        "task 10 1 10\nuse 1 1 10000.000001 0.5",
+        "task 10 1 10\nuse 1 1 0.5001 10000.000001",
+        "task 10 1 10\nuse 1 1 0.5 0.5\nuse 1 1 0.2001 10000.0001",
+        "task 10 1 10\nuse 1 1 99999.999999 99999.999999",
+    ]),
+    (6, &["task 10 1 10\nuse 1 1 0.5 0.5\nuse 1 1 0.2001 0.2"]),
+    // a count has no decimals
+    (3, &[
+        "task 10 1 10\nuse 1.0000 1 0.5 0.5",
+        "task 10 1 10\nuse 1 1.0000 0.5 0.5",
+        "task 10 1 10\nuse 1 1.000000 0.5 0.5",
+        "task 10 1 10\nuse 1.0000000 1 0.5 0.5",
+        "task 10 1 10\nuse 0.9999 0.9999 0.5 0.5",
+    ]),
+    // c in a bound: task 1 waits for it
+    (0, &["task 10 1 10\nuse 1 1 0.5 0.5\ntask 10 1 10\nuse 1 1 0.2001 0.2001"]),
+];
+
 /// A task with these `use` lines after it, on lines 3 and on.
 fn with_uses(uses: &str) -> String {
     format!("cpus 2\ntask 10 5 10\n{uses}")
@@ -29,13 +201,26 @@ pub fn tasks(n: usize) -> String {
     format!("cpus 4\n{}", "task 100 0.1 100\n".repeat(n))
 }
 
-/// Every pair in use, each field as long as it can be spelled: the longest listing that is accepted.
+/// Every pair in use, each field as long as it can be spelled with three decimals. The benchmark keeps to it, so that its figures can be
+/// compared with earlier ones.
 fn largest() -> String {
     let mut text = String::from("cpus 0004\n");
     for _ in 0..32 {
         text.push_str("task 10000.000 00016.000 10000.000\n");
         for k in 1..=16 {
             text.push_str(&format!("use {k:04} 1000 00000.001 00000.999\n"));
+        }
+    }
+    text
+}
+
+/// Every pair in use, each field as long as it can be spelled: the longest listing that is accepted.
+pub fn longest() -> String {
+    let mut text = String::from("cpus 0004\n");
+    for _ in 0..32 {
+        text.push_str("task 10000.000000 00016.000000 10000.000000\n");
+        for k in 1..=16 {
+            text.push_str(&format!("use {k:04} 1000 00000.000001 00000.999999\n"));
         }
     }
     text
@@ -103,6 +288,7 @@ pub fn listings() -> Vec<Vec<u8>> {
         "cpus 2\ntask 2. 1 1\n",
         "cpus 2\ntask .5 1 1\n",
         "cpus 2\ntask 2.5000 1 1\n",
+        "cpus 2\ntask 2.5000000 1 1\n",
         "cpus 2\ntask 100000 1 1\n",
         "cpus 2\ntask 0 11 1x\n",
         "cpus 2\ntask 10 9 8\n",
@@ -150,7 +336,9 @@ pub fn listings() -> Vec<Vec<u8>> {
     all.push((tasks(32) + "task 0 11 10\n").into_bytes());
     all.push((tasks(32) + "task 10 x 10\n").into_bytes());
     all.push((tasks(32) + "use 1 1 0.1 0.1\n").into_bytes());
+    all.extend(decimals().into_iter().map(String::into_bytes));
     all.push(largest().into_bytes());
+    all.push(longest().into_bytes());
     all.push(slow().into_bytes());
     for length in [BYTES - 1, BYTES, BYTES + 1, BYTES + 2, 2 * BYTES] {
         all.push(vec![b'\n'; length]);
@@ -161,6 +349,55 @@ pub fn listings() -> Vec<Vec<u8>> {
         all.push([b"cpus 2\ntask 10 2.5 1".as_slice(), &[byte], b"\n"].concat());
         all.push([b"cpus 2\ntas".as_slice(), &[byte], b" 10 2.5 1\n"].concat());
     }
+    all
+}
+
+/// Lines from the second on: each field of a task spelled so, beside what fits, and beside what comes just before and after it rounded. So
+/// the microsecond that was read shows, in a bound or a refusal.
+fn spelled(x: &str, down: u64, up: u64) -> Vec<String> {
+    let mut all = vec![format!("task {x} 0.001 0.001"), format!("task 10000 {x} 10000"), format!("task 10000 0.001 {x}")];
+    for other in [down.saturating_sub(1), down, down + 1].map(ms) {
+        all.push(format!("task {x} 0.001 {other}"));
+        all.push(format!("task {other} 0.001 {x}"));
+        all.push(format!("task 10000 {other} {x}"));
+    }
+    for other in [up.saturating_sub(1), up, up + 1].map(ms) {
+        all.push(format!("task 10000 {x} {other}"));
+        all.push(format!("task 10000 {x} 10000\nuse 1 1 {other} {other}"));
+        all.push(format!("task 10000 {other} 10000\nuse 1 1 {x} {x}"));
+        all.push(format!("task 10000 10000 10000\nuse 1 1 {x} {other}"));
+        all.push(format!("task 10000 10000 10000\nuse 1 1 {other} {x}"));
+    }
+    all
+}
+
+/// Lines from the second on: each field misspelled so, beside what fits, and beside what is out of range, which counts less.
+pub fn misspelled(x: &str) -> Vec<String> {
+    let task = ["{x} 0.001 0.001", "10000 {x} 10000", "10000 0.001 {x}", "{x} 0 0", "0 {x} 10000.001", "0.0009 10000.000001 {x}", "1 2 {x}"];
+    let uses = ["1 1 {x} 1", "1 1 1 {x}", "17 1001 {x} 0", "0 0 10000.000001 {x}", "1 1 2 {x}"];
+    let task = task.iter().map(|fields| format!("task {fields}"));
+    let uses = uses.iter().map(|fields| format!("task 10 5 10\nuse {fields}"));
+    task.chain(uses).map(|lines| lines.replace("{x}", x)).collect()
+}
+
+/// Times of four decimals and more, by themselves and beside each other.
+fn decimals() -> Vec<String> {
+    let mut lines: Vec<String> = BESIDE.iter().flat_map(|(_, all)| all.iter()).map(|lines| lines.to_string()).collect();
+    // sixteen totals that fit one by one, and as typed all of them; the C that they need rounded, and a little less
+    for c in ["0.9936", "1.007", "1.007001", "1.008", "1.008000"] {
+        let uses: String = (1..=16).map(|k| format!("\nuse {k} 1 0.0621 0.0621")).collect();
+        lines.push(format!("task 10 {c} 10{uses}"));
+    }
+    lines.extend(SPELLED.iter().flat_map(|&(x, down, up)| spelled(x, down, up)));
+    lines.extend(MISSPELLED.iter().flat_map(|x| misspelled(x)));
+    let mut all: Vec<String> = lines.iter().map(|lines| format!("cpus 2\n{lines}\n")).collect();
+    all.extend([TRACED, ROUNDED, AS_TYPED].map(String::from));
+    // a deadline in a verdict
+    all.extend(["14.5000", "14.500999", "14.499999", "14.4999999"].map(|d| CASE_A.replace("30 6 30", &format!("30 6 {d}"))));
+    all.extend(["2.0000", "2.000000", "2.0000001", "0.9999", "64.0001"].map(|m| CASE_A.replace("cpus 2", &format!("cpus {m}"))));
+    // past the last task: 3 comes before 8, and 8 before 4
+    all.extend(["10 2.5000001 10", "10 2.500001 10", "10000.001000 1 1", "10 10000.000001 10"].map(|fields| tasks(32) + &format!("task {fields}\n")));
+    all.push("cpus 2\ntask 10 2.500001 10".into());
     all
 }
 

@@ -1,6 +1,14 @@
-//! A listing to a table and back. Written from the paper's section 'The listing'.
+//! A listing to a table and back. Written from the paper's section 'The listing' and request 1/12.
 
 use crate::table::{Lock, Refusal, Table, Task, BYTES, COUNT, CPUS, LOCKS, TASKS, TIME};
+use Round::{Down, Up};
+
+/// Which way a time goes to the whole microsecond.
+#[derive(Clone, Copy)]
+pub enum Round {
+    Down,
+    Up,
+}
 
 pub fn read(bytes: &[u8]) -> Result<Table, Refusal> {
     if bytes.len() > BYTES {
@@ -52,7 +60,7 @@ impl Reader {
     }
 
     fn task(&mut self, t: &[u8], c: &[u8], d: &[u8]) -> Result<(), u32> {
-        let (t, c, d) = (time(t)?, time(c)?, time(d)?);
+        let (t, c, d) = (time(t, Down)?, time(c, Up)?, time(d, Down)?);
         if self.table.n == TASKS as u64 {
             return Err(8);
         }
@@ -69,7 +77,7 @@ impl Reader {
     }
 
     fn lock(&mut self, words: &[&[u8]]) -> Result<(), u32> {
-        let (k, n, c, ct) = (count(words[0])?, count(words[1])?, time(words[2])?, time(words[3])?);
+        let (k, n, c, ct) = (count(words[0])?, count(words[1])?, time(words[2], Up)?, time(words[3], Up)?);
         ranged(k, LOCKS as u64)?;
         ranged(n, COUNT)?;
         ranged(c, TIME)?;
@@ -103,17 +111,26 @@ pub fn count(text: &[u8]) -> Result<u64, u32> {
     digits(text, 4)
 }
 
-/// Milliseconds with up to three decimals, in microseconds.
-pub fn time(text: &[u8]) -> Result<u64, u32> {
+/// Milliseconds with up to six decimals, in nanoseconds.
+pub fn nanoseconds(text: &[u8]) -> Result<u64, u32> {
     match text.iter().position(|&b| b == b'.') {
-        None => Ok(digits(text, 5)? * 1000),
+        None => Ok(digits(text, 5)? * 1_000_000),
         Some(at) => {
             let (whole, fraction) = (&text[..at], &text[at + 1..]);
-            let scale = [0, 100, 10, 1];
-            let (w, f) = (digits(whole, 5)?, digits(fraction, 3)?);
-            Ok(w * 1000 + f * scale[fraction.len()])
+            let scale = [0, 100_000, 10_000, 1_000, 100, 10, 1];
+            let (w, f) = (digits(whole, 5)?, digits(fraction, 6)?);
+            Ok(w * 1_000_000 + f * scale[fraction.len()])
         }
     }
+}
+
+/// The same in microseconds. Three decimals or fewer leave nothing to round.
+pub fn time(text: &[u8], round: Round) -> Result<u64, u32> {
+    let ns = nanoseconds(text)?;
+    Ok(match round {
+        Down => ns / 1_000,
+        Up => ns.div_ceil(1_000),
+    })
 }
 
 /// The text of a checked table.

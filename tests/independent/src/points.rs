@@ -1,7 +1,9 @@
-//! The paper's points, by number. They are held against this program first: else it and the proved one could share a misreading.
+//! The points of the paper and of the requests, by number. They are held against this program first: else it and the proved one could share
+//! a misreading.
 
 use crate::analysis::{demand, terms, verdict, workload, Terms, Verdict};
-use crate::table::{Refusal, Table, Task};
+use crate::listing::Round::{Down, Up};
+use crate::table::{Lock, Refusal, Table, Task, TIME};
 use crate::{cases, listing, report};
 
 /// Stops the comparison if a point fails.
@@ -11,7 +13,11 @@ pub fn hold() {
     fields();
     refusals();
     thirds();
-    println!("the paper's points hold in this program");
+    decimals();
+    each_field();
+    rounded();
+    longest();
+    println!("the points of the paper and of the requests hold in this program");
 }
 
 fn table(text: &str) -> Table {
@@ -40,13 +46,19 @@ fn workloads() {
 fn fields() {
     let good = [("2.5", 2_500), ("2.05", 2_050), ("2.005", 2_005), ("2.500", 2_500), ("10000", 10_000_000)];
     for (text, us) in good {
-        assert_eq!(listing::time(text.as_bytes()), Ok(us), "{text}");
+        assert_eq!(times(text), [Ok(us); 2], "{text}");
     }
-    for text in ["2.", ".5", "2.5000", "100000"] {
-        assert_eq!(listing::time(text.as_bytes()), Err(3), "{text}");
+    // 2.5000 was among these before request 1/12
+    for text in ["2.", ".5", "100000"] {
+        assert_eq!(times(text), [Err(3); 2], "{text}");
     }
     refused("cpus 2\ntask 10000.001 1 1\n", (4, 2));
     refused("cpus 2\ntask 0 1 1\n", (4, 2));
+}
+
+/// A time field rounded down, and rounded up.
+fn times(text: &str) -> [Result<u64, u32>; 2] {
+    [Down, Up].map(|round| listing::time(text.as_bytes(), round))
 }
 
 fn refused(text: &str, refusal: Refusal) {
@@ -66,4 +78,105 @@ fn thirds() {
     let Terms { db, s, o, f, l } = terms(&table, 3, bound);
     assert_eq!((table.m, db, s, o, f, l), (3, 6, 1, 1, 1, 1));
     assert_eq!(bound, table.tasks[3].c + db + s + 1);
+}
+
+/// Request 1/12: four to six decimals, in every field and beside each other. T and D go down, C, c and CT up.
+fn decimals() {
+    let run_times = [
+        ("2.5000", Ok(2_500)),
+        ("2.5001", Ok(2_501)),
+        ("0.000001", Ok(1)),
+        ("0.9995", Ok(1_000)),
+        ("10000.000001", Err((4, 2))),
+        ("99999.999999", Err((4, 2))),
+        ("2.0000001", Err((3, 2))),
+        ("2.", Err((3, 2))),
+    ];
+    for (text, us) in run_times {
+        assert_eq!(first(&format!("task 10000 {text} 10000")).map(|task| task.c), us, "{text} as C");
+    }
+    let periods = [
+        ("2.5000", Ok(2_500)),
+        ("2.5009", Ok(2_500)),
+        ("0.0009", Err((4, 2))),
+        ("10000.000999", Ok(TIME)),
+        ("10000.001", Err((4, 2))),
+        ("99999.999999", Err((4, 2))),
+        ("2.0000001", Err((3, 2))),
+        ("2.", Err((3, 2))),
+    ];
+    for (text, us) in periods {
+        assert_eq!(first(&format!("task {text} 0.001 0.001")).map(|task| task.t), us, "{text} as T");
+    }
+    assert_eq!(times("99999.999999"), [Ok(99_999_999), Ok(100_000_000)]);
+    // 5 and 7 look at the rounded values
+    refused("cpus 2\ntask 10 2.0001 2.0009\n", (5, 2));
+    assert_eq!(first("task 10.0001 1 10.0009"), Ok(Task { t: 10_000, c: 1_000, d: 10_000, ..Task::default() }));
+    refused("cpus 2\ntask 10 1 10\nuse 1 1 0.5001 0.5\n", (7, 3));
+    refused("cpus 2\ntask 10 5 10\nuse 1 2 0.5 1.0001\n", (7, 3));
+    assert_eq!(first("task 10 5 10\nuse 1 2 0.5001 1.0002").map(|task| task.locks[0]), Ok(Lock { n: 2, c: 501, ct: 1_001 }));
+    // they fit as typed, but are rounded up one by one
+    refused("cpus 2\ntask 10 1 10\nuse 1 1 0.5001 0.5001\nuse 2 1 0.4999 0.4999\n", (7, 4));
+    // past the last task 3 still comes before 8, and 8 before 4
+    refused(&(cases::tasks(32) + "task 10 2.5000001 10\n"), (3, 34));
+    refused(&(cases::tasks(32) + "task 10 10000.000001 10\n"), (8, 34));
+    // case A from a tracer is case A, and is written as it
+    assert_eq!(table(cases::TRACED), table(cases::CASE_A));
+    assert_eq!(listing::write(&table(cases::TRACED)), cases::CASE_A);
+}
+
+/// The first task of a listing that has these lines from the second on.
+fn first(lines: &str) -> Result<Task, Refusal> {
+    listing::read(format!("cpus 2\n{lines}\n").as_bytes()).map(|table| table.tasks[0])
+}
+
+/// What the comparison tries by hand: every spelling in every field, where each goes its own way and its range is that of the rounded value;
+/// and fields beside each other.
+fn each_field() {
+    let ranged = |us: u64, line: u32| if (1..=TIME).contains(&us) { Ok(us) } else { Err((4, line)) };
+    for &(text, down, up) in cases::SPELLED {
+        assert_eq!(times(text), [Ok(down), Ok(up)], "{text}");
+        assert_eq!(first(&format!("task {text} 0.001 0.001")).map(|task| task.t), ranged(down, 2), "{text} as T");
+        assert_eq!(first(&format!("task 10000 {text} 10000")).map(|task| task.c), ranged(up, 2), "{text} as C");
+        assert_eq!(first(&format!("task 10000 0.001 {text}")).map(|task| task.d), ranged(down, 2), "{text} as D");
+        let lock = first(&format!("task 10000 10000 10000\nuse 1 1 {text} {text}")).map(|task| task.locks[0]);
+        assert_eq!(lock.map(|lock| lock.c), ranged(up, 3), "{text} as c");
+        assert_eq!(lock.map(|lock| lock.ct), ranged(up, 3), "{text} as CT");
+    }
+    for text in cases::MISSPELLED {
+        assert_eq!(times(text), [Err(3); 2], "{text}");
+        for lines in cases::misspelled(text) {
+            answered(&lines, 3);
+        }
+    }
+    for (number, all) in cases::BESIDE {
+        for lines in *all {
+            answered(lines, *number);
+        }
+    }
+}
+
+/// These lines, from the second on, get this refusal at the last one, or are accepted if it is 0.
+fn answered(lines: &str, number: u32) {
+    let last = lines.lines().count() as u32 + 1;
+    let refusal = first(lines).err();
+    assert_eq!(refusal, if number == 0 { None } else { Some((number, last)) }, "{lines}");
+}
+
+/// The verdict is that of the rounded figures, even where the figures as typed would miss.
+fn rounded() {
+    let figures = |text: &str| table(text).used().iter().map(|task| (task.t, task.c, task.d)).collect::<Vec<_>>();
+    assert_eq!(figures(cases::ROUNDED), [(11, 9, 9), (11, 2, 11)]);
+    assert_eq!(verdict(&table(cases::ROUNDED), 1), Verdict::Meets(11));
+    assert_eq!(figures(cases::AS_TYPED), [(11_000, 9_000, 9_198), (11_000, 2_000, 11_000)]);
+    assert_eq!(verdict(&table(cases::AS_TYPED), 1), Verdict::Misses);
+}
+
+/// The longest listing: every field at its longest, and every total at its most.
+fn longest() {
+    let text = cases::longest();
+    assert_eq!(text.len(), 21_898);
+    let lock = Lock { n: 1_000, c: 1, ct: 1_000 };
+    let task = Task { t: TIME, c: 16_000, d: TIME, locks: [lock; 16] };
+    assert_eq!(table(&text), Table { m: 4, n: 32, tasks: [task; 32] });
 }
