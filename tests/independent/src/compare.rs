@@ -111,8 +111,21 @@ fn listings() -> Vec<Vec<u8>> {
     all
 }
 
+/// Whether a time of the listing has four to six decimals.
+fn traced(listing: &[u8]) -> bool {
+    let long = |word: &&[u8]| listing::nanoseconds(word).is_ok() && word.iter().rev().position(|&b| b == b'.').is_some_and(|decimals| decimals > 3);
+    listing.split(|&b| b == b'\n').any(|line| {
+        let words: Vec<&[u8]> = line.split(|&b| b == b' ').collect();
+        match words[0] {
+            b"task" => words.iter().skip(1).any(long),
+            b"use" => words.iter().skip(3).any(long),
+            _ => false,
+        }
+    })
+}
+
 pub fn reports(program: &str) -> bool {
-    let mut tally = Tally::new();
+    let (mut tally, mut with_decimals) = (Tally::new(), Tally::new());
     for listing in listings() {
         let expected = report::text(&listing);
         if !run(program, &listing).is(&expected) {
@@ -121,11 +134,20 @@ pub fn reports(program: &str) -> bool {
         }
         tally.compared += 1;
         tally.count(outcome(&expected));
+        if traced(&listing) {
+            with_decimals.compared += 1;
+            with_decimals.count(outcome(&expected));
+        }
     }
     tally.print(&format!("reports: {} compared", tally.compared));
-    let mut wanted: Vec<String> = (1..=9).map(|k| format!("refused {k:>2}")).collect();
-    wanted.extend(["accepted, all meet".into(), "accepted, with a miss".into()]);
-    tally.covers(&wanted)
+    with_decimals.print(&format!("of these, {} have a time of four to six decimals", with_decimals.compared));
+    let wanted = |refusals: &[u32]| {
+        let mut all: Vec<String> = refusals.iter().map(|k| format!("refused {k:>2}")).collect();
+        all.extend(["accepted, all meet".into(), "accepted, with a miss".into()]);
+        all
+    };
+    // nothing is read of a listing that gets 1, and no time of one that gets 9
+    tally.covers(&wanted(&[1, 2, 3, 4, 5, 6, 7, 8, 9])) && with_decimals.covers(&wanted(&[2, 3, 4, 5, 6, 7, 8]))
 }
 
 /// Prints a small listing on which the two programs differ: lines are taken out as long as they still do.

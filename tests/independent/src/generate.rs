@@ -1,5 +1,6 @@
 //! Tables and listings to compare on: valid ones of many shapes, and damaged ones.
 
+use crate::listing::{self, Round};
 use crate::random::Random;
 use crate::table::{Lock, Table, Task, COUNT, LOCKS, TASKS, TIME};
 
@@ -39,15 +40,30 @@ fn task(r: &mut Random, locks: usize, longest: u64, load: u64) -> Task {
     task
 }
 
-/// Some spelling of a time in microseconds.
-pub fn time(r: &mut Random, us: u64) -> String {
-    let (whole, fraction) = (us / 1000, us % 1000);
+/// Some spelling of a time that is rounded to these microseconds. A traced one may be up to 999 ns off: above if it is rounded down, below if
+/// up, so that 1 µs may be 0.000001.
+fn time(r: &mut Random, us: u64, round: Round, traced: bool) -> String {
+    if !traced {
+        return spelling(r, us * 1_000, 3);
+    }
+    let step = *r.pick(&[1, 10, 100, 1_000]);
+    let off = if step < 1_000 { step * r.within(1, 999 / step) } else { 0 };
+    let ns = match round {
+        Round::Down => us * 1_000 + off,
+        Round::Up => us * 1_000 - off,
+    };
+    spelling(r, ns, 6)
+}
+
+/// Some spelling of a time in nanoseconds, with as many decimals as it needs, or more, up to `most`.
+fn spelling(r: &mut Random, ns: u64, most: u64) -> String {
+    let (whole, fraction) = (ns / 1_000_000, ns % 1_000_000);
     let least = whole.to_string().len();
     let width = if r.one_in(4) { r.within(least as u64, least.max(5) as u64) as usize } else { least };
     let mut text = format!("{whole:0width$}");
-    let digits = format!("{fraction:03}");
+    let digits = format!("{fraction:06}");
     let needed = digits.trim_end_matches('0').len();
-    let kept = if r.one_in(4) { r.within(needed as u64, 3) as usize } else { needed };
+    let kept = if r.one_in(4) { r.within(needed as u64, most) as usize } else { needed };
     if kept > 0 {
         text.push('.');
         text.push_str(&digits[..kept]);
@@ -61,14 +77,17 @@ fn count(r: &mut Random, x: u64) -> String {
     format!("{x:0width$}")
 }
 
-/// A listing of a table, in some spelling, as lines without their LF.
+/// A listing of a table, in some spelling, as lines without their LF. Half of them have three decimals at most.
 pub fn lines(r: &mut Random, table: &Table) -> Vec<String> {
+    let traced = r.one_in(2);
+    let down = |r: &mut Random, us: u64| time(r, us, Round::Down, traced);
+    let up = |r: &mut Random, us: u64| time(r, us, Round::Up, traced);
     let mut lines = vec![format!("cpus {}", count(r, table.m))];
     for task in table.used() {
-        lines.push(format!("task {} {} {}", time(r, task.t), time(r, task.c), time(r, task.d)));
+        lines.push(format!("task {} {} {}", down(r, task.t), up(r, task.c), down(r, task.d)));
         for (k, lock) in task.locks.iter().enumerate() {
             if lock.n > 0 {
-                lines.push(format!("use {} {} {} {}", count(r, k as u64 + 1), count(r, lock.n), time(r, lock.c), time(r, lock.ct)));
+                lines.push(format!("use {} {} {} {}", count(r, k as u64 + 1), count(r, lock.n), up(r, lock.c), up(r, lock.ct)));
             }
         }
     }
@@ -84,8 +103,26 @@ fn odd_field(r: &mut Random) -> String {
     r.pick(&[
         "0", "00000", "0.0", "0.001", "10000", "10000.000", "10000.001", "10001", "99999.999", "100000", "2.", ".5", "2.5000", "2.5.5", "2,5", "-1",
         "+1", "x", "1x", "1 ", " 1", "", "64", "65", "16", "17", "1000", "1001", "9999", "09999", "00001", "1\r", "1\t", "\u{e9}", "1e3", "0x1", "4294967297",
+        "0.000001", "0.0000001", "0.0009", "0.000999", "0.0009999", "0.001000", "0.001001", "0.0010001", "2.500000", "2.500001", "2.5000001", "1.0000",
+        "9999.999999", "9999.9999999", "10000.000000", "10000.000001", "10000.0000001", "10000.000999", "10000.0009999", "10000.001000", "99999.999999",
     ])
     .to_string()
+}
+
+/// The line with one of its times less than a microsecond off. A line that was damaged before may have none there.
+fn nudge(r: &mut Random, line: &str) -> String {
+    let mut words: Vec<String> = line.split(' ').map(String::from).collect();
+    let w = match words[0].as_str() {
+        "task" => r.within(1, 3) as usize,
+        "use" => r.within(3, 4) as usize,
+        _ => return line.into(),
+    };
+    if let Some(Ok(ns)) = words.get(w).map(|word| listing::nanoseconds(word.as_bytes())) {
+        let off = r.within(1, 999);
+        let ns = if r.one_in(2) { ns + off } else { ns.saturating_sub(off) };
+        words[w] = spelling(r, ns, 6);
+    }
+    words.join(" ")
 }
 
 /// One change of a line's fields, of the order of lines, or of bytes.
@@ -96,7 +133,7 @@ pub fn damage(r: &mut Random, lines: &mut Vec<String>) -> Vec<u8> {
             break;
         }
         let at = r.next() as usize % lines.len();
-        match r.within(0, 9) {
+        match r.within(0, 11) {
             0..=3 => {
                 let mut words: Vec<String> = lines[at].split(' ').map(String::from).collect();
                 let w = r.next() as usize % words.len();
@@ -124,6 +161,7 @@ pub fn damage(r: &mut Random, lines: &mut Vec<String>) -> Vec<u8> {
                 let fewer = r.one_in(2);
                 lines[at] = if fewer { words[..words.len() - 1].join(" ") } else { format!("{} 1", lines[at]) };
             }
+            9 | 10 => lines[at] = nudge(r, &lines[at]),
             _ => {
                 let made = format!("use {} {} {} {}", r.within(1, 17), r.within(1, 5), r.within(1, 3), r.within(1, 9));
                 lines.insert(at + 1, made);
