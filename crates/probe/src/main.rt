@@ -1,4 +1,4 @@
-// A test program: hands a raw table of any numbers to one entry point of the library, and prints the answer and all that was lent.
+// A test program: hands a raw table of any numbers, or a listing, to one entry point of the library, and prints the answer and all that was lent.
 // docs/PROBE.md describes its input. Its contracts say nothing: it is for comparing, and what it calls is proved elsewhere.
 ghost use Prim.Native.Nat.{_≤_};
 ghost use lib.ListN.{length};
@@ -21,6 +21,9 @@ const TASK: usize = 3 + 3 * Table::MAX_RESOURCES;
 const WORDS: usize = 5 + Table::MAX_TASKS * TASK;
 
 const BYTES: usize = 4 * WORDS;
+
+// Where a listing begins in a request: after the entry point and its length.
+const LISTING: usize = 8;
 
 // The records of the row that is lent, or of which the front is lent.
 const ROWS: usize = 40;
@@ -207,6 +210,18 @@ fn write(t: Table, room: u32) {
     write_into(t, &mut out, room as usize);
 }
 
+// Entry point 5: `read`, of a listing of so many bytes; then `write` of the table that it gives.
+fn read(s: &[u8], length: u32) {
+    if s.len() < LISTING + length as usize {
+        say(b"bad listing\n");
+        return;
+    }
+    let r = listing::read(&s[LISTING..LISTING + length as usize]);
+    let answer = r.answer;
+    say_checked(answer);
+    write(r.table, OUTPUT as u32);
+}
+
 fn main() {
     let mut space = [0u8; BYTES];
     let n = io::read_full(STDIN_FILENO, &mut space);
@@ -221,6 +236,7 @@ fn main() {
         2 => bound(t, argument),
         3 => analyse(t, argument),
         4 => write(t, argument),
+        5 => read(&space, argument),
         _ => say(b"bad request\n"),
     }
 }

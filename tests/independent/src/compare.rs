@@ -89,7 +89,7 @@ fn outcome(text: &str) -> String {
 }
 
 /// The listings that are compared, in a fixed order.
-fn listings() -> Vec<Vec<u8>> {
+pub fn listings() -> Vec<Vec<u8>> {
     let mut all: Vec<Vec<u8>> = cases::listings();
     let mut r = Random::new(1);
     for _ in 0..VALID {

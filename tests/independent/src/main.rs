@@ -51,7 +51,7 @@ fn main() -> ExitCode {
         }
         ["compare", report, probe] => {
             points::hold();
-            if compare::reports(report) && probe::compare(probe) && probe::longest_text(report, probe) {
+            if compare::reports(report) && probe::readings(probe) && probe::compare(probe) && probe::longest_text(report, probe) {
                 ExitCode::SUCCESS
             } else {
                 ExitCode::FAILURE

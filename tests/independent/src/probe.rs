@@ -1,8 +1,9 @@
-//! Tables handed over directly, by way of the program `probe`: the check, one task's bound, rows and outputs of every length.
+//! Tables handed over directly, by way of the program `probe`: the check, one task's bound, rows and outputs of every length. And listings: which
+//! table each is read as.
 //! docs/PROBE.md describes its input.
 
 use crate::analysis::{self, Verdict};
-use crate::compare::{run, Tally};
+use crate::compare::{self, run, Tally};
 use crate::random::Random;
 use crate::table::{Lock, Refusal, Table};
 use crate::{edges, generate, listing, report};
@@ -10,6 +11,9 @@ use crate::{edges, generate, listing, report};
 const TABLES: u64 = 600;
 const ROWS: usize = 40;
 const OUTPUT: usize = 20_000;
+/// The bytes of a request, and of a listing that fits in one.
+const REQUEST: usize = 6_548;
+const LISTING: usize = REQUEST - 8;
 
 fn request(entry: u32, argument: u32, table: &Table) -> Vec<u8> {
     let mut words = vec![entry, argument, table.m as u32, (table.n >> 32) as u32, table.n as u32];
@@ -122,6 +126,37 @@ pub fn compare(program: &str) -> bool {
     let refusals = |name: &'static str| [4, 5, 7, 8, 9].map(|k| format!("{name}: refused {k:>2}"));
     let mut wanted: Vec<String> = ["check", "bound", "analyse", "write"].into_iter().flat_map(refusals).collect();
     wanted.extend(["check: fine", "bound: meets", "bound: misses", "bound: refused 10", "analyse: fine", "analyse: refused 11", "write: wrote", "write: refused 11"].map(String::from));
+    tally.covers(&wanted)
+}
+
+fn reading(listing: &[u8]) -> Vec<u8> {
+    let mut bytes = [5u32, listing.len() as u32].map(u32::to_be_bytes).concat();
+    bytes.extend(listing);
+    bytes.resize(REQUEST, 0);
+    bytes
+}
+
+/// Listings that are read, and the table that each gives written again. A report shows a few bounds; this shows every figure that was read, and of a
+/// refused listing that its table is the empty one.
+pub fn readings(program: &str) -> bool {
+    let mut tally = Tally::new();
+    for listing in compare::listings().iter().filter(|listing| listing.len() <= LISTING) {
+        let expected = match listing::read(listing) {
+            Ok(table) => format!("fine\n{}", output(&table, OUTPUT)),
+            Err(r) => refused(r) + &output(&Table::zero(), OUTPUT),
+        };
+        let found = run(program, &reading(listing));
+        if !found.is(&expected) {
+            println!("read differs on\n{}\nhere:\n{expected}\n{program}:\n{found}", String::from_utf8_lossy(listing));
+            return false;
+        }
+        tally.compared += 1;
+        tally.count(outcome("read", &expected));
+    }
+    tally.print(&format!("readings: {} compared", tally.compared));
+    // 1 needs a longer listing than fits in a request
+    let mut wanted: Vec<String> = (2..=9).map(|k| format!("read: refused {k:>2}")).collect();
+    wanted.push("read: fine".into());
     tally.covers(&wanted)
 }
 
