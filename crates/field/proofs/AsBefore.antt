@@ -2,7 +2,7 @@
 -- Assumes nothing.
 use Prim.Native.Nat.{ℕ, zero, suc, _+_, _*_, _≤_, _<_}
 use mathlib.Core.Path.{_≡_, refl, sym, ap, _∙_}
-use mathlib.Core.Bool.{true, false}
+use mathlib.Core.Bool.{true}
 use mathlib.Core.List.{List, [], _∷_, _++_}
 use native.Mathlib.Omega.{arith}
 use lib.ListN.{length, drop, length-append}
@@ -15,22 +15,22 @@ use Rattle.field.specs.declared.Field.the-variants.{Value, Bad}
 use Rattle.field.specs.declared.Rounding.{Rounding}
 use Rattle.field.specs.Number.{digits, number, first, ends, point, nanos, rounded, fraction, timeField}
 use Rattle.field.specs.Spelling.{Digits, none, one}
-use Rattle.field.specs.ThreeDecimals.{micros, shortFraction, shortTime, decimals}
+use Rattle.field.specs.ThreeDecimals.{shortMicros, shortFraction, shortTime, decimals}
 use Rattle.field.proofs.RoundingLaws.{rounded-whole}
 use Rattle.field.proofs.FirstField.{first-point, first-split}
 use Rattle.field.proofs.ReadAs.{TimeRead, read-whole, read-pointed, time-read}
 use Rattle.field.proofs.Spelled.{digits-are}
 
 -- three digits padded to six
-short-nanos : (v : ℕ) (f : List ℕ) → length f ≤ 3 → nanos v f ≡ micros v f * 1000
+short-nanos : (v : ℕ) (f : List ℕ) → length f ≤ 3 → nanos v f ≡ shortMicros v f * 1000
 short-nanos v [] h = omega arith
 short-nanos v (x ∷ []) h = omega arith
 short-nanos v (x ∷ y ∷ []) h = omega arith
 short-nanos v (x ∷ y ∷ z ∷ []) h = omega arith
 short-nanos v (x ∷ y ∷ z ∷ u ∷ f) h = absurd (omega arith)
 
-short-rounded : (way : Rounding) (v : ℕ) (f : List ℕ) → length f ≤ 3 → rounded way (nanos v f) ≡ micros v f
-short-rounded way v f h = ap (rounded way) (short-nanos v f h) ∙ rounded-whole way (micros v f)
+short-rounded : (way : Rounding) (v : ℕ) (f : List ℕ) → length f ≤ 3 → rounded way (nanos v f) ≡ shortMicros v f
+short-rounded way v f h = ap (rounded way) (short-nanos v f h) ∙ rounded-whole way (shortMicros v f)
 
 short-within : (n : ℕ) → n ≤ 3 → within 1 6 n ≡ within 1 3 n
 short-within zero h = refl
@@ -67,7 +67,7 @@ time-before way s h =
     let r = drop n s in
     let v = number 0 (digits s) in
     rw (short-rounded way v [] (omega arith))
-    (ap (λ (x : Field). pick (within 1 5 n) (pick (ends r) (Value (micros v []) n) x) Bad)
+    (ap (λ (x : Field). pick (within 1 5 n) (pick (ends r) (Value (shortMicros v []) n) x) Bad)
     (pick-when Bad (point r) (λ p. fraction-before way v (n + 1) (drop (n + 1) s) (few-decimals s p h))))
 
 -- ---- seven decimals and more

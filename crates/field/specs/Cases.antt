@@ -1,4 +1,4 @@
--- The paper's fields and some more, and what each reads as: one list, one statement over it, computed.
+-- The paper's fields, those of request 1/12 and some more, and what each reads as: one list, one statement over it, computed.
 use Prim.Native.Nat.{ℕ}
 use Prim.Native.String.{String}
 use mathlib.Core.Path.{_≡_}
@@ -89,7 +89,7 @@ up =
     ∷ case "99999.999999" (Value 100_000_000 12)
     ∷ []
 
--- neither
+-- badly formed, whichever way is told
 unfoldable pub long : List Case
 long =
     case "2.0000001" Bad
@@ -99,7 +99,7 @@ long =
     ∷ case "2.5000\r" Bad
     ∷ []
 
--- ----
+-- ---- counts
 
 unfoldable pub counts : List Case
 counts =

@@ -11,13 +11,13 @@ use Rattle.field.specs.declared.Field.the-variants.{Value, Bad}
 use Rattle.field.specs.Number.{digits, number, ends, point}
 
 -- v milliseconds and the fraction f, padded on the right with '0' to three digits, in microseconds
-abbrev pub micros : ℕ → List ℕ → ℕ
-micros v f = number v (take 3 (f ++ (48 ∷ 48 ∷ 48 ∷ [])))
+abbrev pub shortMicros : ℕ → List ℕ → ℕ
+shortMicros v f = number v (take 3 (f ++ (48 ∷ 48 ∷ 48 ∷ [])))
 
 unfoldable pub shortFraction : ℕ → ℕ → List ℕ → Field
 shortFraction v at s =
     let f = digits s in
-    pick (within 1 3 (length f) && ends (drop (length f) s)) (Value (micros v f) (at + length f)) Bad
+    pick (within 1 3 (length f) && ends (drop (length f) s)) (Value (shortMicros v f) (at + length f)) Bad
 
 unfoldable pub shortTime : List ℕ → Field
 shortTime s =
@@ -25,7 +25,7 @@ shortTime s =
     let v = number 0 w in
     let n = length w in
     pick (within 1 5 n)
-    (pick (ends (drop n s)) (Value (micros v []) n)
+    (pick (ends (drop n s)) (Value (shortMicros v []) n)
     (pick (point (drop n s)) (shortFraction v (n + 1) (drop (n + 1) s)) Bad))
     Bad
 

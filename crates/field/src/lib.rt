@@ -97,20 +97,20 @@ fn millionths(digits: usize, x: u32) -> u32
 }
 
 // The nanoseconds past a whole millisecond, in microseconds.
-fn micros(rounding: Rounding, ns: u32) -> u32
+fn micros(way: Rounding, ns: u32) -> u32
     requires { ⌜ ns < 1000000 ⌝ }
-    ensures { λ r. ⌜ (r ≡ rounded rounding ns) × (r ≤ 1000) ⌝ }
+    ensures { λ r. ⌜ (r ≡ rounded way ns) × (r ≤ 1000) ⌝ }
 {
-    match rounding {
+    match way {
         Rounding::Down => ns / 1000,
         Rounding::Up => (ns + 999) / 1000,
     }
 }
 
 // What follows the point, at a place, of a time whose whole part is v.
-fn fraction_at(s: &[u8], at: usize, v: u32, rounding: Rounding) -> Field
+fn fraction_at(s: &[u8], at: usize, v: u32, way: Rounding) -> Field
     requires { ⌜ (at ≤ 6) × (v ≤ 99999) ⌝ }
-    ensures { λ r. ⌜ r ≡ fraction rounding v at (drop at (now (s .entry))) ⌝ }
+    ensures { λ r. ⌜ r ≡ fraction way v at (drop at (now (s .entry))) ⌝ }
 {
     let Run::Of(n, x) = leading_at(s, at, 6) else {
         return Field::Bad;
@@ -122,12 +122,12 @@ fn fraction_at(s: &[u8], at: usize, v: u32, rounding: Rounding) -> Field
     if !ends_at(s, end) {
         return Field::Bad;
     }
-    Field::Value(v * 1000 + micros(rounding, millionths(n, x)), end)
+    Field::Value(v * 1000 + micros(way, millionths(n, x)), end)
 }
 
-// A time, in microseconds.
-pub fn time(s: &[u8], rounding: Rounding) -> Field
-    ensures { λ r. ⌜ r ≡ timeField rounding (now (s .entry)) ⌝ }
+// A time, in microseconds, rounded as told.
+pub fn time(s: &[u8], way: Rounding) -> Field
+    ensures { λ r. ⌜ r ≡ timeField way (now (s .entry)) ⌝ }
 {
     let Run::Of(n, v) = leading(s, 5) else {
         return Field::Bad;
@@ -141,7 +141,7 @@ pub fn time(s: &[u8], rounding: Rounding) -> Field
     if !point_at(s, n) {
         return Field::Bad;
     }
-    fraction_at(s, n + 1, v, rounding)
+    fraction_at(s, n + 1, v, way)
 }
 
 // A count.

@@ -18,7 +18,7 @@ use Rattle.table.specs.Limits.{maxTasks, maxResources}
 use Rattle.table.specs.Empty.{unusedPair}
 use Rattle.table.specs.At.{noTask, totalOf}
 use Rattle.table.specs.Accepted.{GoodPair, GoodTask, Accepted}
-use Rattle.meaning.specs.Figures.{UseFigures, TaskFigures, Figures, GoodUses, GoodTaskFigures, GoodTasks, GoodFigures, pairIn, pairFor, taskOf, taskFor, tableOf}
+use Rattle.meaning.specs.Figures.{UseFigures, TaskFigures, Figures, GoodUses, GoodTaskFigures, GoodTasks, GoodFigures, pairIn, useFor, pairFor, taskOf, taskFor, tableOf}
 use Rattle.basics.proofs.RowLaws.{row-at}
 
 good-pair : {C last sum : ℕ} {us : List UseFigures} (k : ℕ) → GoodUses C last sum us → (pairFor us k ≡ unusedPair) ⊎ GoodPair (pairFor us k)
@@ -26,14 +26,14 @@ good-pair k GoodUses.no-use = inl refl
 good-pair k (GoodUses.one-use {u = u} {us = us} a b g f r) = go (eqb (u .K) (suc k)) (good-pair k r)
   where
     go : (t : Bool) → (pairFor us k ≡ unusedPair) ⊎ GoodPair (pairFor us k)
-        → let p = pick t (pairIn u) (pairFor us k) in (p ≡ unusedPair) ⊎ GoodPair p
+        → let p = pairIn (pick t u (useFor us k)) in (p ≡ unusedPair) ⊎ GoodPair p
     go true ih = inr g
     go false ih = ih
 
 -- ---- the sum over the resources is at most the sum of the uses
 
 abbrev totalFor : List UseFigures → ℕ → ℕ
-totalFor us k = pairFor us k .total
+totalFor us k = useFor us k .CT .kept
 
 -- v, of resource K alone
 abbrev alone : ℕ → ℕ → ℕ → ℕ
@@ -49,9 +49,9 @@ alone-sum (suc n) K v = go (eqb K (suc n)) refl (alone-sum n K v)
     go true e ih = let q = eqb-true K (suc n) e in (λ h. absurd (omega arith), omega (arith, ih .0 (omega arith)))
     go false e ih = (λ h. omega (arith, ih .0 (omega arith)), omega (arith, ih .1))
 
-total-le : (t : Bool) (p q : Pair) → pick t p q .total ≤ only t (p .total) + q .total
-total-le true p q = omega arith
-total-le false p q = omega arith
+total-le : (t : Bool) (u w : UseFigures) → pick t u w .CT .kept ≤ only t (u .CT .kept) + w .CT .kept
+total-le true u w = omega arith
+total-le false u w = omega arith
 
 good-sum : {C last sum : ℕ} {us : List UseFigures} → GoodUses C last sum us → sum ≤ C → sum + sumTo maxResources (totalFor us) ≤ C
 good-sum GoodUses.no-use h = omega (arith, sum-bound maxResources 0 (totalFor []) (λ k l. omega arith))
@@ -60,7 +60,7 @@ good-sum (GoodUses.one-use {u = u} {us = us} a b g f r) h =
     omega (
       arith,
       good-sum r f,
-      sum-le maxResources (totalFor (u ∷ us)) (λ (k : ℕ). alone (u .K) v k + totalFor us k) (λ k l. total-le (eqb (u .K) (suc k)) (pairIn u) (pairFor us k)),
+      sum-le maxResources (totalFor (u ∷ us)) (λ (k : ℕ). alone (u .K) v k + totalFor us k) (λ k l. total-le (eqb (u .K) (suc k)) u (useFor us k)),
       sum-add maxResources (alone (u .K) v) (totalFor us),
       alone-sum maxResources (u .K) v .1,
     )

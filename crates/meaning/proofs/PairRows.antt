@@ -15,7 +15,7 @@ use Rattle.table.specs.Limits.{maxResources}
 use Rattle.table.specs.Empty.{unusedPair}
 use Rattle.basics.specs.Over.{rowTo}
 use Rattle.basics.proofs.RowLaws.{row-is}
-use Rattle.meaning.specs.Figures.{UseFigures, GoodUses, pairIn, pairFor}
+use Rattle.meaning.specs.Figures.{UseFigures, GoodUses, pairIn, useFor, pairFor}
 
 abbrev pub putPairs : List Pair → List UseFigures → List Pair
 putPairs ps [] = ps
@@ -41,7 +41,7 @@ put-at ps k (GoodUses.one-use {u = u} {us = us} a b g f r) l e = go (ℕ-discret
     now = set ps (u .K - 1) (pairIn u)
 
     go : Dec (u .K ≡ suc k) → (getD now k unusedPair ≡ unusedPair → getD (putPairs now us) k unusedPair ≡ pairFor us k)
-        → getD (putPairs now us) k unusedPair ≡ pick (eqb (u .K) (suc k)) (pairIn u) (pairFor us k)
+        → getD (putPairs now us) k unusedPair ≡ pairIn (pick (eqb (u .K) (suc k)) u (useFor us k))
     go (yes q) ih =
         let p : u .K - 1 ≡ k = omega arith in
         rw (eq-eqb (u .K) (suc k) q)

@@ -16,8 +16,8 @@ use Rattle.table.specs.At.{noTask, taskAt, pairOf}
 use Rattle.field.specs.declared.Rounding.the-variants.{Down, Up}
 use Rattle.field.specs.Spelling.{RoundedTo}
 use Rattle.field.proofs.RoundingLaws.{whole-to}
-use Rattle.meaning.specs.Figures.{UseFigures, TaskFigures, Figures, StatesUses, use-line, StatesTasks, task-line, StatesFigures, cpus-line, GoodFigures, pairIn, pairFor, taskOf, taskFor, tableOf}
-use Rattle.meaning.specs.Sides.{noTaskLine, taskLineAt, useLineFor, OnTheirSides, Sides}
+use Rattle.meaning.specs.Figures.{UseFigures, TaskFigures, Figures, StatesUses, use-line, StatesTasks, task-line, StatesFigures, cpus-line, GoodFigures, pairIn, useFor, pairFor, taskOf, taskFor, tableOf}
+use Rattle.meaning.specs.Sides.{noFigures, taskFigures, OnTheirSides, Sides}
 use Rattle.meaning.proofs.Meaning.{correct}
 
 -- ---- what is stated lies on its side
@@ -30,48 +30,40 @@ record TaskSides (x : TaskFigures) : Type 0 where
   T : RoundedTo Down (x .T .typed) (x .T .kept)
   C : RoundedTo Up (x .C .typed) (x .C .kept)
   D : RoundedTo Down (x .D .typed) (x .D .kept)
-  uses : (k : ℕ) → UseSides (useLineFor (x .uses) k)
+  uses : (k : ℕ) → UseSides (useFor (x .uses) k)
 
-uses-sides : {s : List ℕ} {us : List UseFigures} → StatesUses s us → (k : ℕ) → UseSides (useLineFor us k)
+uses-sides : {s : List ℕ} {us : List UseFigures} → StatesUses s us → (k : ℕ) → UseSides (useFor us k)
 uses-sides StatesUses.no-use k = record { c = whole-to Up 0; CT = whole-to Up 0 }
 uses-sides (use-line {u = u} {us} a b c d r) k = go (eqb (u .K) (suc k)) (uses-sides r k)
   where
-    go : (b : Bool) → UseSides (useLineFor us k) → UseSides (pick b u (useLineFor us k))
+    go : (b : Bool) → UseSides (useFor us k) → UseSides (pick b u (useFor us k))
     go true later = record { c = c .keeps; CT = d .keeps }
     go false later = later
 
-tasks-sides : {s : List ℕ} {xs : List TaskFigures} → StatesTasks s xs → (i : ℕ) → i < length xs → TaskSides (getD xs i noTaskLine)
+tasks-sides : {s : List ℕ} {xs : List TaskFigures} → StatesTasks s xs → (i : ℕ) → i < length xs → TaskSides (getD xs i noFigures)
 tasks-sides StatesTasks.no-task i h = absurd (omega arith)
 tasks-sides (task-line a b c p r) zero h = record { T = a .keeps; C = b .keeps; D = c .keeps; uses = uses-sides p }
 tasks-sides (task-line a b c p r) (suc i) h = tasks-sides r i (omega arith)
 
-figures-sides : {s : List ℕ} {f : Figures} → StatesFigures s f → (i : ℕ) → i < length (f .tasks) → TaskSides (taskLineAt f i)
+figures-sides : {s : List ℕ} {f : Figures} → StatesFigures s f → (i : ℕ) → i < length (f .tasks) → TaskSides (taskFigures f i)
 figures-sides (cpus-line a r) i h = tasks-sides r i h
 
 -- ---- and is what the table holds
 
-task-for : (xs : List TaskFigures) (i : ℕ) → i < length xs → taskFor xs i ≡ taskOf (getD xs i noTaskLine)
+task-for : (xs : List TaskFigures) (i : ℕ) → i < length xs → taskFor xs i ≡ taskOf (getD xs i noFigures)
 task-for [] i h = absurd (omega arith)
 task-for (x ∷ xs) zero h = refl
 task-for (x ∷ xs) (suc i) h = task-for xs i (omega arith)
 
-pair-for : (us : List UseFigures) (k : ℕ) → pairFor us k ≡ pairIn (useLineFor us k)
-pair-for [] k = refl
-pair-for (u ∷ us) k = go (eqb (u .K) (suc k)) (pair-for us k)
-  where
-    go : (b : Bool) → pairFor us k ≡ pairIn (useLineFor us k) → pick b (pairIn u) (pairFor us k) ≡ pairIn (pick b u (useLineFor us k))
-    go true later = refl
-    go false later = later
-
 module _ (f : Figures) (few : length (f .tasks) ≤ maxTasks) (i : ℕ) (h : i < length (f .tasks)) where
-  task-held : taskAt (tableOf f) i ≡ taskOf (taskLineAt f i)
+  task-held : taskAt (tableOf f) i ≡ taskOf (taskFigures f i)
   unfolding tableOf
   task-held = row-at maxTasks i (taskFor (f .tasks)) noTask (omega arith) ∙ task-for (f .tasks) i h
 
-  pair-held : (k : ℕ) → k < maxResources → pairOf (taskAt (tableOf f) i) k ≡ pairIn (useLineFor (taskLineAt f i .uses) k)
+  pair-held : (k : ℕ) → k < maxResources → pairOf (taskAt (tableOf f) i) k ≡ pairIn (useFor (taskFigures f i .uses) k)
   unfolding taskOf
   pair-held k l =
-      ap (λ (x : Task). pairOf x k) task-held ∙ row-at maxResources k (pairFor (taskLineAt f i .uses)) unusedPair l ∙ pair-for (taskLineAt f i .uses) k
+      ap (λ (x : Task). pairOf x k) task-held ∙ row-at maxResources k (pairFor (taskFigures f i .uses)) unusedPair l
 
 on-their-sides : {s : List ℕ} (f : Figures) → StatesFigures s f → length (f .tasks) ≤ maxTasks → OnTheirSides (tableOf f) f
 unfolding tableOf taskOf

@@ -11,12 +11,15 @@ use Rattle.table.specs.declared.Pair.{Pair}
 use Rattle.table.specs.declared.Task.{Task}
 use Rattle.table.specs.declared.Table.{Table}
 use Rattle.table.specs.Limits.{maxCpus, maxTasks, maxResources}
-use Rattle.table.specs.Empty.{unusedPair, emptyTask}
+use Rattle.table.specs.Empty.{emptyTask}
 use Rattle.table.specs.Accepted.{GoodTimes, GoodPair}
 use Rattle.field.specs.declared.Rounding.the-variants.{Down, Up}
 use Rattle.field.specs.Spelling.{Time, StatesTime, StatesCount}
 
 -- ---- figures
+
+abbrev pub nothing : Time
+nothing = record { typed = 0; kept = 0 }
 
 -- K, N, c and CT
 pub record UseFigures : Type 0 where
@@ -84,10 +87,14 @@ pub record GoodFigures (f : Figures) : Type 0 where
 
 -- ---- the table that holds them, and zeros
 
--- the pair with resource k + 1
+-- the figures for resource k + 1, zeros where no line has it
+abbrev pub useFor : List UseFigures → ℕ → UseFigures
+useFor [] k = record { K = 0; N = 0; c = nothing; CT = nothing }
+useFor (u ∷ us) k = pick (eqb (u .K) (suc k)) u (useFor us k)
+
+-- and the pair
 abbrev pub pairFor : List UseFigures → ℕ → Pair
-pairFor [] k = unusedPair
-pairFor (u ∷ us) k = pick (eqb (u .K) (suc k)) (pairIn u) (pairFor us k)
+pairFor us k = pairIn (useFor us k)
 
 unfoldable pub taskOf : TaskFigures → Task
 taskOf x = record { period = x .T .kept; run = x .C .kept; deadline = x .D .kept; pairs = rowTo maxResources (pairFor (x .uses)) }
