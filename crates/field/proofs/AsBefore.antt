@@ -21,7 +21,7 @@ use Rattle.field.proofs.FirstField.{first-point, first-split}
 use Rattle.field.proofs.ReadAs.{TimeRead, read-whole, read-pointed, time-read}
 use Rattle.field.proofs.Spelled.{digits-are}
 
--- three digits padded to six
+-- at most three digits, padded to six
 short-nanos : (v : ℕ) (f : List ℕ) → length f ≤ 3 → nanos v f ≡ shortMicros v f * 1000
 short-nanos v [] h = omega arith
 short-nanos v (x ∷ []) h = omega arith

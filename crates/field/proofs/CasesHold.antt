@@ -2,8 +2,8 @@
 use mathlib.Core.Path.{refl}
 use Rattle.field.specs.Number.{rounded, fraction, timeField, countField}
 use Rattle.field.specs.ThreeDecimals.{shortFraction, shortTime}
-use Rattle.field.specs.Cases.{marked, times, down, up, long, counts, CasesHold}
+use Rattle.field.specs.Cases.{marked, times, before, down, up, long, counts, CasesHold}
 
 pub cases-hold : CasesHold
-unfolding marked times down up long counts rounded fraction timeField countField shortFraction shortTime
+unfolding marked times before down up long counts rounded fraction timeField countField shortFraction shortTime
 cases-hold = (refl, refl, refl, refl, refl, refl)

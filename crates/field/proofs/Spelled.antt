@@ -13,7 +13,7 @@ use Rattle.basics.proofs.ChoiceLaws.{within-in}
 use Rattle.field.specs.declared.Field.the-variants.{Value}
 use Rattle.field.specs.declared.Rounding.{Rounding}
 use Rattle.field.specs.Number.{isDigit, digits, number, first, ends, nanos, rounded, fraction, timeField, countField}
-use Rattle.field.specs.Spelling.{Digits, none, one, valueOf, DigitsTo, Time, Types, whole, pointed, StatesTime, StatesCount}
+use Rattle.field.specs.Spelling.{Digits, none, one, valueOf, DigitsTo, Time, Spells, whole, pointed, StatesTime, StatesCount}
 use Rattle.field.proofs.DigitLaws.{padded-number}
 use Rattle.field.proofs.RoundingLaws.{rounded-to, to-rounded}
 use Rattle.field.proofs.FirstField.{digit-in, first-none, count-first, time-first}
@@ -43,7 +43,7 @@ pub digits-all : (w z : List ℕ) → Digits w → digits z ≡ [] → digits (w
 digits-all [] z none e = e
 digits-all (b ∷ w) z (one d r) e = rw (d, digits-all w z r e)
 
-digits-whole : (w : List ℕ) → Digits w → digits w ≡ w
+pub digits-whole : (w : List ℕ) → Digits w → digits w ≡ w
 digits-whole w d = sym (ap digits (append-nil w)) ∙ digits-all w [] d refl
 
 digits-first : (w z : List ℕ) → Digits w → first (w ++ z) ≡ w ++ first z
@@ -61,26 +61,26 @@ count-states s v n e =
     let q : v ≡ number 0 (digits s) = cc in
     rw (r .0 .all) (record { digits = digits-to 4 s (r .0); value = q ∙ value-number (digits s) })
 
--- w states a time that is kept as v
-pub record StatesKept (way : Rounding) (w : List ℕ) (v : ℕ) : Type 0 where
+-- w states a time that is held as v
+pub record StatesHeld (way : Rounding) (w : List ℕ) (v : ℕ) : Type 0 where
   pub typed : ℕ
-  pub states : StatesTime way w (record { typed = typed; kept = v })
+  pub states : StatesTime way w (record { typed = typed; held = v })
 
-pub time-states : (way : Rounding) (s : List ℕ) (v n : ℕ) → timeField way s ≡ Value v n → StatesKept way (first s) v
+pub time-states : (way : Rounding) (s : List ℕ) (v n : ℕ) → timeField way s ≡ Value v n → StatesHeld way (first s) v
 time-states way s v n e = go (time-read way s v n e)
   where
     -- the nanoseconds that are read
-    kept : (ns : ℕ) → v ≡ rounded way ns → Types (first s) ns → StatesKept way (first s) v
-    kept ns q t = record { typed = ns; states = record { types = t; keeps = rw q (rounded-to way ns) } }
+    held : (ns : ℕ) → v ≡ rounded way ns → Spells (first s) ns → StatesHeld way (first s) v
+    held ns q t = record { typed = ns; states = record { spells = t; rounds = rw q (rounded-to way ns) } }
 
-    go : TimeRead way s v n → StatesKept way (first s) v
+    go : TimeRead way s v n → StatesHeld way (first s) v
     go (read-whole a z) =
         let q : nanos (number 0 (digits s)) [] ≡ valueOf (digits s) * 1_000_000 = omega (arith, value-number (digits s)) in
-        kept (nanos (number 0 (digits s)) []) (cc) (rw (a .all) (whole (digits-to 5 s a) q))
+        held (nanos (number 0 (digits s)) []) (cc) (rw (a .all) (whole (digits-to 5 s a) q))
     go (read-pointed {f} b a r z) =
         let q : nanos (number 0 (digits s)) (digits f) ≡ valueOf (digits s) * 1_000_000 + valueOf (digits f) * 10 ^ (6 - length (digits f)) =
         cc (padded-number (number 0 (digits s)) (digits f) (r .few), value-number (digits s), value-number (digits f)) in
-        kept (nanos (number 0 (digits s)) (digits f)) (cc) (rw a (pointed (record { digits = digits-are s; some = b .0; few = b .1 }) (digits-to 6 f r) q))
+        held (nanos (number 0 (digits s)) (digits f)) (cc) (rw a (pointed (record { digits = digits-are s; some = b .0; few = b .1 }) (digits-to 6 f r) q))
 
 -- ---- what states v reads as v
 
@@ -97,7 +97,7 @@ fraction-of : (way : Rounding) (u at : ℕ) (f : List ℕ) → DigitsTo 6 f → 
 unfolding fraction
 fraction-of way u at f d = rw (digits-whole f (d .digits), drop-length f, within-in 1 6 (length f) (d .some) (d .few))
 
-time-of : (way : Rounding) (w : List ℕ) (ns : ℕ) → Types w ns → timeField way w ≡ Value (rounded way ns) (length w)
+time-of : (way : Rounding) (w : List ℕ) (ns : ℕ) → Spells w ns → timeField way w ≡ Value (rounded way ns) (length w)
 unfolding timeField
 time-of way w ns (whole d e) =
     let q : nanos (valueOf w) [] ≡ ns = padded-number (valueOf w) [] (omega arith) ∙ omega arith in
@@ -107,9 +107,9 @@ time-of way _ ns (pointed {w} {f} d g e) =
     (rw (padded-number (number 0 w) f (g .few), value-number w, value-number f, ← e, length-append w (46 ∷ f))
     (ap (Value (rounded way ns)) (omega arith)))
 
-pub states-time : (way : Rounding) (s : List ℕ) (x : Time) → StatesTime way (first s) x → timeField way s ≡ Value (x .kept) (length (first s))
+pub states-time : (way : Rounding) (s : List ℕ) (x : Time) → StatesTime way (first s) x → timeField way s ≡ Value (x .held) (length (first s))
 states-time way s x t =
-    sym (time-first way s) ∙ time-of way (first s) (x .typed) (t .types) ∙ ap (λ (v : ℕ). Value v (length (first s))) (to-rounded way (x .typed) (x .kept) (t .keeps))
+    sym (time-first way s) ∙ time-of way (first s) (x .typed) (t .spells) ∙ ap (λ (v : ℕ). Value v (length (first s))) (to-rounded way (x .typed) (x .held) (t .rounds))
 
 -- ---- a field that is joined to a text
 
@@ -119,7 +119,7 @@ digits-alone w z d e = digits-first w z d ∙ rw (first-none z e) (append-nil w)
 pub no-apart-count : (w : List ℕ) (v : ℕ) → StatesCount w v → (z : List ℕ) → ends z ≡ true → first (w ++ z) ≡ w
 no-apart-count w v c z e = digits-alone w z (c .digits .digits) e
 
-pub no-apart-time : (w : List ℕ) (ns : ℕ) → Types w ns → (z : List ℕ) → ends z ≡ true → first (w ++ z) ≡ w
+pub no-apart-time : (w : List ℕ) (ns : ℕ) → Spells w ns → (z : List ℕ) → ends z ≡ true → first (w ++ z) ≡ w
 no-apart-time w ns (whole d q) z e = digits-alone w z (d .digits) e
 no-apart-time _ ns (pointed {w} {f} d g q) z e =
     rw (append-assoc w (46 ∷ f) z, digits-first w (46 ∷ (f ++ z)) (d .digits), digits-alone f z (g .digits) e)
@@ -127,6 +127,6 @@ no-apart-time _ ns (pointed {w} {f} d g q) z e =
 pub some-count : (w : List ℕ) (v : ℕ) → StatesCount w v → 1 ≤ length w
 some-count w v c = c .digits .some
 
-pub some-time : (w : List ℕ) (ns : ℕ) → Types w ns → 1 ≤ length w
+pub some-time : (w : List ℕ) (ns : ℕ) → Spells w ns → 1 ≤ length w
 some-time w ns (whole d q) = d .some
 some-time _ ns (pointed {w} {f} d g q) = omega (arith, length-append w (46 ∷ f))

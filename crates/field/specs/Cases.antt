@@ -57,7 +57,16 @@ times =
     ∷ case "2\t" Bad
     ∷ []
 
--- ---- more than three decimals (document 02, 1/12)
+-- ---- more than three decimals
+
+-- badly formed by document 01
+unfoldable pub before : List Case
+before =
+    case "2.5000" Bad
+    ∷ case "2.000000" Bad
+    ∷ []
+
+-- by document 02, 1/12:
 
 -- a period or deadline
 unfoldable pub down : List Case
@@ -120,7 +129,7 @@ abbrev pub CasesHold : Type 0
 CasesHold =
     reads (timeField Down) (marked ++ times)
     × reads (timeField Up) (marked ++ times)
-    × reads shortTime (marked ++ times)
+    × reads shortTime (marked ++ times ++ before)
     × reads (timeField Down) (down ++ long)
     × reads (timeField Up) (up ++ long)
     × reads countField counts

@@ -24,16 +24,16 @@ pub record DigitsTo (n : ℕ) (w : List ℕ) : Type 0 where
   pub some : 1 ≤ length w
   pub few : length w ≤ n
 
--- a time: as it is typed, in nanoseconds, and as it is kept, in microseconds
+-- a time: as it is typed, in nanoseconds, and as the table holds it, in microseconds
 pub record Time : Type 0 where
   pub typed : ℕ
-  pub kept : ℕ
+  pub held : ℕ
 
--- w is digits, or digits, a point and digits f, and types ns = number(w) × 1,000,000 + number(f) × 10^(6 − length f) nanoseconds
-pub data Types : List ℕ → ℕ → Type 0 where
-  whole : {w : List ℕ} {ns : ℕ} → DigitsTo 5 w → ns ≡ valueOf w * 1_000_000 → Types w ns
+-- a text spells ns nanoseconds: it is digits w, or digits w, a point and digits f, and ns = number(w) × 1,000,000 + number(f) × 10^(6 − length f)
+pub data Spells : List ℕ → ℕ → Type 0 where
+  whole : {w : List ℕ} {ns : ℕ} → DigitsTo 5 w → ns ≡ valueOf w * 1_000_000 → Spells w ns
   pointed : {w f : List ℕ} {ns : ℕ} → DigitsTo 5 w → DigitsTo 6 f
-      → ns ≡ valueOf w * 1_000_000 + valueOf f * 10 ^ (6 - length f) → Types (w ++ (46 ∷ f)) ns
+      → ns ≡ valueOf w * 1_000_000 + valueOf f * 10 ^ (6 - length f) → Spells (w ++ (46 ∷ f)) ns
 
 -- v is the whole microsecond that ns nanoseconds are rounded to, said without dividing: it lies on its side of them, and less than a microsecond away
 unfoldable pub RoundedTo : Rounding → ℕ → ℕ → Type 0
@@ -42,8 +42,8 @@ RoundedTo Up ns v = (ns ≤ v * 1000) × (v * 1000 < ns + 1000)
 
 -- w states the time x, rounded this way
 pub record StatesTime (way : Rounding) (w : List ℕ) (x : Time) : Type 0 where
-  pub types : Types w (x .typed)
-  pub keeps : RoundedTo way (x .typed) (x .kept)
+  pub spells : Spells w (x .typed)
+  pub rounds : RoundedTo way (x .typed) (x .held)
 
 pub record StatesCount (w : List ℕ) (v : ℕ) : Type 0 where
   pub digits : DigitsTo 4 w

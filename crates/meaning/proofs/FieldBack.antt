@@ -12,7 +12,7 @@ use Rattle.basics.proofs.ChoiceLaws.{within-in}
 use Rattle.field.specs.declared.Field.the-variants.{Value}
 use Rattle.field.specs.declared.Rounding.{Rounding}
 use Rattle.field.specs.Number.{number, ends, timeField, countField}
-use Rattle.field.specs.Spelling.{Digits, none, one, valueOf, DigitsTo, Time, Types, whole, StatesTime, StatesCount}
+use Rattle.field.specs.Spelling.{Digits, none, one, valueOf, DigitsTo, Time, Spells, whole, StatesTime, StatesCount}
 use Rattle.field.specs.Spelling
 use Rattle.put.specs.Text.{digitsOf, width, countText, timeText}
 use Rattle.field.proofs.DigitLaws.{number-append}
@@ -64,8 +64,8 @@ millionths (suc (suc zero)) x y h e = omega arith
 millionths (suc (suc (suc zero))) x y h e = omega arith
 millionths (suc (suc (suc (suc k)))) x y h e = absurd (omega arith)
 
-time-types : (us : ℕ) → us ≤ 99_999_999 → Types (timeText us) (us * 1000)
-time-types us h = let t = trimmed (us % 1000) (omega arith) in go (t .0) (t .1) (t .2)
+time-spells : (us : ℕ) → us ≤ 99_999_999 → Spells (timeText us) (us * 1000)
+time-spells us h = let t = trimmed (us % 1000) (omega arith) in go (t .0) (t .1) (t .2)
   where
     q : DigitsTo 5 (countText (us / 1000))
     q = count-to 5 (us / 1000) (lit≤ tt) (omega arith)
@@ -73,7 +73,7 @@ time-types us h = let t = trimmed (us % 1000) (omega arith) in go (t .0) (t .1) 
     v : us / 1000 ≡ valueOf (countText (us / 1000))
     v = count-value (us / 1000) (omega arith)
 
-    go : (k y : ℕ) → Trimmed (us % 1000) k y → Types (timeText us) (us * 1000)
+    go : (k y : ℕ) → Trimmed (us % 1000) k y → Spells (timeText us) (us * 1000)
     go zero y t = rw (time-plain us zero y (t .is) refl) (whole {ns = us * 1000} q (omega (arith, v, t .small, t .worth)))
     go (suc k) y t =
         let n = digits-length (suc k) y in
@@ -83,10 +83,10 @@ time-types us h = let t = trimmed (us % 1000) (omega arith) in go (t .0) (t .1) 
 
 -- a time typed to the microsecond
 abbrev pub exactly : ℕ → Time
-exactly us = record { typed = us * 1000; kept = us }
+exactly us = record { typed = us * 1000; held = us }
 
 pub time-text : (way : Rounding) (us : ℕ) → us ≤ 99_999_999 → StatesTime way (timeText us) (exactly us)
-time-text way us h = record { types = time-types us h; keeps = whole-to way us }
+time-text way us h = record { spells = time-spells us h; rounds = whole-to way us }
 
 -- ---- and is read back
 
@@ -99,5 +99,5 @@ count-back n z h e =
 pub time-back : (way : Rounding) (us : ℕ) (z : List ℕ) → us ≤ 99_999_999 → ends z ≡ true → timeField way (timeText us ++ z) ≡ Value us (length (timeText us))
 time-back way us z h e =
     let t = time-text way us h in
-    let f = no-apart-time (timeText us) (us * 1000) (t .types) z e in
+    let f = no-apart-time (timeText us) (us * 1000) (t .spells) z e in
     states-time way (timeText us ++ z) (exactly us) (rw f t) ∙ rw f

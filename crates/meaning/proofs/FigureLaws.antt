@@ -33,7 +33,7 @@ good-pair k (GoodUses.one-use {u = u} {us = us} a b g f r) = go (eqb (u .K) (suc
 -- ---- the sum over the resources is at most the sum of the uses
 
 abbrev totalFor : List UseFigures → ℕ → ℕ
-totalFor us k = useFor us k .CT .kept
+totalFor us k = useFor us k .CT .held
 
 -- v, of resource K alone
 abbrev alone : ℕ → ℕ → ℕ → ℕ
@@ -49,14 +49,14 @@ alone-sum (suc n) K v = go (eqb K (suc n)) refl (alone-sum n K v)
     go true e ih = let q = eqb-true K (suc n) e in (λ h. absurd (omega arith), omega (arith, ih .0 (omega arith)))
     go false e ih = (λ h. omega (arith, ih .0 (omega arith)), omega (arith, ih .1))
 
-total-le : (t : Bool) (u w : UseFigures) → pick t u w .CT .kept ≤ only t (u .CT .kept) + w .CT .kept
+total-le : (t : Bool) (u w : UseFigures) → pick t u w .CT .held ≤ only t (u .CT .held) + w .CT .held
 total-le true u w = omega arith
 total-le false u w = omega arith
 
 good-sum : {C last sum : ℕ} {us : List UseFigures} → GoodUses C last sum us → sum ≤ C → sum + sumTo maxResources (totalFor us) ≤ C
 good-sum GoodUses.no-use h = omega (arith, sum-bound maxResources 0 (totalFor []) (λ k l. omega arith))
 good-sum (GoodUses.one-use {u = u} {us = us} a b g f r) h =
-    let v = u .CT .kept in
+    let v = u .CT .held in
     omega (
       arith,
       good-sum r f,

@@ -7,6 +7,7 @@
 --   ReadStates    from what is read to what is stated
 --   StatesRead    from what is stated to what is read
 --   Meaning       correct, complete, passes-check
+--   OneReading    unambiguous
 --   Sides         each figure of an accepted listing's table lies on its side of what was typed
 --   Refused       a refused reading gives the empty table
 --   LineRefusals  a line is refused with the number of the first rule that it does not keep
@@ -24,6 +25,7 @@ pub mod FigureLaws
 pub mod ReadStates
 pub mod StatesRead
 pub mod Meaning
+pub mod OneReading
 pub mod Sides
 pub mod Refused
 pub mod LineRefusals

@@ -17,10 +17,7 @@ use Rattle.table.specs.declared.Refusal.{Refusal}
 use Rattle.table.specs.declared.Checked.the-variants.{Fine, Refused}
 use Rattle.table.specs.declared.Fault.the-variants.{BadForm, NoTask}
 use Rattle.table.specs.Limits.{maxTasks}
-use Rattle.field.specs.declared.Rounding.{Rounding}
 use Rattle.field.specs.declared.Rounding.the-variants.{Down, Up}
-use Rattle.field.specs.Spelling.{Time}
-use Rattle.field.proofs.Spelled.{StatesKept}
 use Rattle.line.specs.declared.Past.{Past}
 use Rattle.line.specs.declared.Said.{Said}
 use Rattle.line.specs.declared.Said.the-variants.{Task as TaskLine, Use}
@@ -33,7 +30,7 @@ use Rattle.meaning.specs.Figures.{UseFigures, TaskFigures, StatesUses, u
 use Rattle.line.proofs.LineRules.{TaskRules, UseRules, Line, is-cpus, is-task, is-use, is-not}
 use Rattle.line.proofs.Says.{line-is}
 use Rattle.meaning.proofs.SplitLaws.{Start, start-of, no-line}
-use Rattle.meaning.proofs.WordLaws.{listed, start-text, count-in, time-in}
+use Rattle.meaning.proofs.WordLaws.{listed, start-text, count-in, timeOf, time-in}
 use Rattle.meaning.proofs.TableLaws.{storeUses, storeTasks}
 
 -- ---- from what is read to what is stated
@@ -53,10 +50,6 @@ pub record Stating (past : Past) (s : List ℕ) (t u : Table) : Type 0 where
   pub few : past .tasks + length tasks ≤ maxTasks
   pub table : u ≡ storeTasks (storeUses t (past .tasks) uses) (past .tasks) tasks
 
--- the time that a field states
-abbrev time : {way : Rounding} {w : List ℕ} {v : ℕ} → StatesKept way w v → ℕ → Time
-time k v = record { typed = k .typed; kept = v }
-
 module _ {l s : List ℕ} (a : Start l s) (past : Past) {t u : Table} where
   task-states : {T C D : ℕ} → form (bytes "task") 4 l ≡ true → TaskRules past (timeIn Down l 1) (timeIn Up l 2) (timeIn Down l 3) T C D
       → Stating (fresh (past .tasks + 1) C) (a .rest) (tableAfter t (past .tasks) (TaskLine T C D)) u → Stating past s t u
@@ -67,7 +60,7 @@ module _ {l s : List ℕ} (a : Start l s) (past : Past) {t u : Table} where
       let deadline = time-in l 2 Down (r .deadline) in
       record {
         uses = [];
-        tasks = record { T = time period T; C = time run C; D = time deadline D; uses = m .uses } ∷ m .tasks;
+        tasks = record { T = timeOf period T; C = timeOf run C; D = timeOf deadline D; uses = m .uses } ∷ m .tasks;
         first = [];
         second = line ++ (m .first ++ m .second);
         text = start-text a (bytes "task") 3 f ∙ ap (λ (x : List ℕ). line ++ x) (m .text);
@@ -88,7 +81,7 @@ module _ {l s : List ℕ} (a : Start l s) (past : Past) {t u : Table} where
       let longest = time-in l 2 Up (r .longest) in
       let total = time-in l 3 Up (r .total) in
       record {
-        uses = record { K = K .0; N = p .requests; c = time longest (p .longest); CT = time total (p .total) } ∷ m .uses;
+        uses = record { K = K .0; N = p .requests; c = timeOf longest (p .longest); CT = timeOf total (p .total) } ∷ m .uses;
         tasks = m .tasks;
         first = line ++ m .first;
         second = m .second;

@@ -1,5 +1,5 @@
 -- Each figure of an accepted listing's table lies on its side of what was typed (specs/Sides.antt).
--- Assumes nothing.
+-- Assumes noTime.
 use Prim.Native.Nat.{ℕ, zero, suc, _≤_, _<_}
 use mathlib.Core.Path.{_≡_, refl, ap, _∙_}
 use mathlib.Core.Bool.{Bool, true, false}
@@ -19,17 +19,18 @@ use Rattle.field.proofs.RoundingLaws.{whole-to}
 use Rattle.meaning.specs.Figures.{UseFigures, TaskFigures, Figures, StatesUses, use-line, StatesTasks, task-line, StatesFigures, cpus-line, GoodFigures, pairIn, useFor, pairFor, taskOf, taskFor, tableOf}
 use Rattle.meaning.specs.Sides.{noFigures, taskFigures, OnTheirSides, Sides}
 use Rattle.meaning.proofs.Meaning.{correct}
+use Rattle.meaning.proofs.OneReading.{unambiguous}
 
 -- ---- what is stated lies on its side
 
 record UseSides (u : UseFigures) : Type 0 where
-  c : RoundedTo Up (u .c .typed) (u .c .kept)
-  CT : RoundedTo Up (u .CT .typed) (u .CT .kept)
+  c : RoundedTo Up (u .c .typed) (u .c .held)
+  CT : RoundedTo Up (u .CT .typed) (u .CT .held)
 
 record TaskSides (x : TaskFigures) : Type 0 where
-  T : RoundedTo Down (x .T .typed) (x .T .kept)
-  C : RoundedTo Up (x .C .typed) (x .C .kept)
-  D : RoundedTo Down (x .D .typed) (x .D .kept)
+  T : RoundedTo Down (x .T .typed) (x .T .held)
+  C : RoundedTo Up (x .C .typed) (x .C .held)
+  D : RoundedTo Down (x .D .typed) (x .D .held)
   uses : (k : ℕ) → UseSides (useFor (x .uses) k)
 
 uses-sides : {s : List ℕ} {us : List UseFigures} → StatesUses s us → (k : ℕ) → UseSides (useFor us k)
@@ -37,12 +38,12 @@ uses-sides StatesUses.no-use k = record { c = whole-to Up 0; CT = whole-to Up 0 
 uses-sides (use-line {u = u} {us} a b c d r) k = go (eqb (u .K) (suc k)) (uses-sides r k)
   where
     go : (b : Bool) → UseSides (useFor us k) → UseSides (pick b u (useFor us k))
-    go true later = record { c = c .keeps; CT = d .keeps }
+    go true later = record { c = c .rounds; CT = d .rounds }
     go false later = later
 
 tasks-sides : {s : List ℕ} {xs : List TaskFigures} → StatesTasks s xs → (i : ℕ) → i < length xs → TaskSides (getD xs i noFigures)
 tasks-sides StatesTasks.no-task i h = absurd (omega arith)
-tasks-sides (task-line a b c p r) zero h = record { T = a .keeps; C = b .keeps; D = c .keeps; uses = uses-sides p }
+tasks-sides (task-line a b c p r) zero h = record { T = a .rounds; C = b .rounds; D = c .rounds; uses = uses-sides p }
 tasks-sides (task-line a b c p r) (suc i) h = tasks-sides r i (omega arith)
 
 figures-sides : {s : List ℕ} {f : Figures} → StatesFigures s f → (i : ℕ) → i < length (f .tasks) → TaskSides (taskFigures f i)
@@ -77,7 +78,10 @@ on-their-sides f states few =
     }
 
 pub sides : Sides
-sides s t q = let r = correct s t q in go (r .0) (r .1) (r .2) (r .3)
+sides s t f q states =
+    let r = correct s t q in
+    let e = unambiguous s (r .0) f (r .1) states in
+    go (rw e at (r .2)) (rw e at (r .3))
   where
-    go : (f : Figures) → StatesFigures s f → GoodFigures f → t ≡ tableOf f → (f : Figures) × StatesFigures s f × OnTheirSides t f
-    go f states good e = (f, states, rw e (on-their-sides f states (good .tasks-most)))
+    go : GoodFigures f → t ≡ tableOf f → OnTheirSides t f
+    go good e = rw e (on-their-sides f states (good .tasks-most))

@@ -77,9 +77,9 @@ pub tasks-read : {s : List ℕ} {xs : List TaskFigures} (t : Table) (past : Past
 unfolding readLines readEnd pastAfter
 tasks-read t past n StatesTasks.no-task GoodTasks.no-task h some few = rw (lt-ltb 1 n h, lt-ltb 0 (past .tasks) (omega arith))
 tasks-read t past n (task-line {uses = s} {rest} {x} a b c p r) (GoodTasks.one-task g q) h some few =
-    line-read "task" (s ++ rest) t past n (TaskLine (x .T .kept) (x .C .kept) (x .D .kept)) (record { alone = refl; some = omega arith })
+    line-read "task" (s ++ rest) t past n (TaskLine (x .T .held) (x .C .held) (x .D .held)) (record { alone = refl; some = omega arith })
     (more (time-word a) (more (time-word b) (more (time-word c) none)))
     (λ l w o. says-task past n l w h
     (record { period = rw o (time-stated a); run = rw o (time-stated b); deadline = rw o (time-stated c); room = omega arith; times = g .times }))
-    ∙ uses-read rest (tableAfter t (past .tasks) (TaskLine (x .T .kept) (x .C .kept) (x .D .kept))) _ (past .tasks + 1) (n + 1) p (g .uses) (omega arith) (omega arith)
-    (λ last sum m k. tasks-read _ (pastOf (past .tasks + 1) (x .C .kept) last sum) m r q k (omega arith) (omega arith))
+    ∙ uses-read rest (tableAfter t (past .tasks) (TaskLine (x .T .held) (x .C .held) (x .D .held))) _ (past .tasks + 1) (n + 1) p (g .uses) (omega arith) (omega arith)
+    (λ last sum m k. tasks-read _ (pastOf (past .tasks + 1) (x .C .held) last sum) m r q k (omega arith) (omega arith))

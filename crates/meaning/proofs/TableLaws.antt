@@ -63,7 +63,7 @@ storeUses t tasks (u ∷ us) = storeUses (tableAfter t tasks (Use (record { 0 = 
 
 abbrev pub storeTasks : Table → ℕ → List TaskFigures → Table
 storeTasks t tasks [] = t
-storeTasks t tasks (x ∷ xs) = storeTasks (storeUses (tableAfter t tasks (TaskLine (x .T .kept) (x .C .kept) (x .D .kept))) (tasks + 1) (x .uses)) (tasks + 1) xs
+storeTasks t tasks (x ∷ xs) = storeTasks (storeUses (tableAfter t tasks (TaskLine (x .T .held) (x .C .held) (x .D .held))) (tasks + 1) (x .uses)) (tasks + 1) xs
 
 abbrev withPairs : Task → List Pair → Task
 withPairs x ps = record { period = x .period; run = x .run; deadline = x .deadline; pairs = ps }
@@ -80,9 +80,9 @@ module _ (m n i : ℕ) (row : List Task) (h : i < length row) where
   uses-stored x (u ∷ us) =
       ap (λ (t : Table). storeUses t (i + 1) us) (use-stored x (record { 0 = u .K }) (pairIn u)) ∙ uses-stored (withPair x (u .K - 1) (pairIn u)) us
 
-  task-stored : (x : TaskFigures) → GoodTaskFigures x → storeUses (table m n (set row i (newTask (x .T .kept) (x .C .kept) (x .D .kept)))) (i + 1) (x .uses) ≡ table m n (set row i (taskOf x))
+  task-stored : (x : TaskFigures) → GoodTaskFigures x → storeUses (table m n (set row i (newTask (x .T .held) (x .C .held) (x .D .held)))) (i + 1) (x .uses) ≡ table m n (set row i (taskOf x))
   unfolding taskOf newTask
-  task-stored x g = uses-stored (newTask (x .T .kept) (x .C .kept) (x .D .kept)) (x .uses) ∙ rw (pairs-stored (g .uses))
+  task-stored x g = uses-stored (newTask (x .T .held) (x .C .held) (x .D .held)) (x .uses) ∙ rw (pairs-stored (g .uses))
 
 rows-stored : (m i : ℕ) (row : List Task) {xs : List TaskFigures} → GoodTasks xs → i + length xs ≤ length row
     → storeTasks (table m i row) i xs ≡ table m (i + length xs) (putTasks row i xs)

@@ -12,7 +12,7 @@ use Rattle.basics.specs.Choice.{pick}
 use Rattle.field.specs.Number.{apart, first, timeField, countField}
 use Rattle.field.specs.declared.Rounding.{Rounding}
 use Rattle.field.specs.Spelling.{Time, StatesTime, StatesCount}
-use Rattle.field.proofs.Spelled.{count-states, StatesKept, time-states, states-count, states-time, no-apart-count, no-apart-time, some-count, some-time}
+use Rattle.field.proofs.Spelled.{count-states, StatesHeld, time-states, states-count, states-time, no-apart-count, no-apart-time, some-count, some-time}
 use Rattle.line.specs.Fields.{others, fields, filled, fieldCount, same, form}
 use Rattle.basics.specs.Text.{ending}
 use Rattle.line.proofs.FieldLaws.{form-fields}
@@ -76,11 +76,15 @@ field-alone (b ∷ l) i = go (apart b) i (field-alone l)
     go true (suc i) ih = ih i
     go false i ih = ih i
 
+-- the time that a field states, held as v
+abbrev pub timeOf : {way : Rounding} {w : List ℕ} {v : ℕ} → StatesHeld way w v → ℕ → Time
+timeOf t v = record { typed = t .typed; held = v }
+
 module _ (l : List ℕ) (i : ℕ) {v : ℕ} where
   pub count-in : Stated (countField (getD (others l) i [])) v → StatesCount (getD (others l) i []) v
   count-in e = rw (field-alone l i) at (count-states (getD (others l) i []) v (e .width) (e .is))
 
-  pub time-in : (way : Rounding) → Stated (timeField way (getD (others l) i [])) v → StatesKept way (getD (others l) i []) v
+  pub time-in : (way : Rounding) → Stated (timeField way (getD (others l) i [])) v → StatesHeld way (getD (others l) i []) v
   time-in way e = rw (field-alone l i) at (time-states way (getD (others l) i []) v (e .width) (e .is))
 
 module _ {w : List ℕ} {v : ℕ} where
@@ -92,7 +96,7 @@ module _ {w : List ℕ} {v : ℕ} where
 
 module _ {way : Rounding} {w : List ℕ} {x : Time} where
   pub time-word : StatesTime way w x → Word w
-  time-word t = record { alone = rw append-nil at (no-apart-time w (x .typed) (t .types) [] refl); some = some-time w (x .typed) (t .types) }
+  time-word t = record { alone = rw append-nil at (no-apart-time w (x .typed) (t .spells) [] refl); some = some-time w (x .typed) (t .spells) }
 
-  pub time-stated : StatesTime way w x → Stated (timeField way w) (x .kept)
+  pub time-stated : StatesTime way w x → Stated (timeField way w) (x .held)
   time-stated t = record { width = length (first w); is = states-time way w x (rw (time-word t .alone) t) }

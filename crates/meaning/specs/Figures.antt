@@ -18,8 +18,9 @@ use Rattle.field.specs.Spelling.{Time, StatesTime, StatesCount}
 
 -- ---- figures
 
-abbrev pub nothing : Time
-nothing = record { typed = 0; kept = 0 }
+-- the time of no line
+abbrev pub noTime : Time
+noTime = record { typed = 0; held = 0 }
 
 -- K, N, c and CT
 pub record UseFigures : Type 0 where
@@ -59,20 +60,20 @@ pub data StatesFigures : List ℕ → Figures → Type 0 where
 
 -- ---- the rules that they obey ("Quantities"): "4, 5 and 7 are decided on the rounded values"
 
--- the pair that a `use` line is kept as
+-- the pair of a `use` line, as the table holds it
 abbrev pub pairIn : UseFigures → Pair
-pairIn u = record { requests = u .N; longest = u .c .kept; total = u .CT .kept }
+pairIn u = record { requests = u .N; longest = u .c .held; total = u .CT .held }
 
 -- the uses of a task with run time C, after one of resource `last`, with the CT so far
 pub data GoodUses (C : ℕ) : ℕ → ℕ → List UseFigures → Type 0 where
   no-use : {last sum : ℕ} → GoodUses C last sum []
   one-use : {last sum : ℕ} {u : UseFigures} {us : List UseFigures}
-      → last < u .K → u .K ≤ maxResources → GoodPair (pairIn u) → sum + u .CT .kept ≤ C
-      → GoodUses C (u .K) (sum + u .CT .kept) us → GoodUses C last sum (u ∷ us)
+      → last < u .K → u .K ≤ maxResources → GoodPair (pairIn u) → sum + u .CT .held ≤ C
+      → GoodUses C (u .K) (sum + u .CT .held) us → GoodUses C last sum (u ∷ us)
 
 pub record GoodTaskFigures (x : TaskFigures) : Type 0 where
-  pub times : GoodTimes (x .T .kept) (x .C .kept) (x .D .kept)
-  pub uses : GoodUses (x .C .kept) 0 0 (x .uses)
+  pub times : GoodTimes (x .T .held) (x .C .held) (x .D .held)
+  pub uses : GoodUses (x .C .held) 0 0 (x .uses)
 
 pub data GoodTasks : List TaskFigures → Type 0 where
   no-task : GoodTasks []
@@ -89,7 +90,7 @@ pub record GoodFigures (f : Figures) : Type 0 where
 
 -- the figures for resource k + 1, zeros where no line has it
 abbrev pub useFor : List UseFigures → ℕ → UseFigures
-useFor [] k = record { K = 0; N = 0; c = nothing; CT = nothing }
+useFor [] k = record { K = 0; N = 0; c = noTime; CT = noTime }
 useFor (u ∷ us) k = pick (eqb (u .K) (suc k)) u (useFor us k)
 
 -- and the pair
@@ -97,7 +98,7 @@ abbrev pub pairFor : List UseFigures → ℕ → Pair
 pairFor us k = pairIn (useFor us k)
 
 unfoldable pub taskOf : TaskFigures → Task
-taskOf x = record { period = x .T .kept; run = x .C .kept; deadline = x .D .kept; pairs = rowTo maxResources (pairFor (x .uses)) }
+taskOf x = record { period = x .T .held; run = x .C .held; deadline = x .D .held; pairs = rowTo maxResources (pairFor (x .uses)) }
 
 -- task i + 1
 abbrev pub taskFor : List TaskFigures → ℕ → Task

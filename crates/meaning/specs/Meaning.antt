@@ -21,6 +21,10 @@ abbrev pub Complete : Type 0
 Complete =
     (s : List ℕ) (f : Figures) → length s ≤ maxListing → StatesFigures s f → GoodFigures f → readListing s ≡ accepted (tableOf f)
 
+-- no listing states figures in two ways
+abbrev pub Unambiguous : Type 0
+Unambiguous = (s : List ℕ) (f g : Figures) → StatesFigures s f → StatesFigures s g → f ≡ g
+
 -- what a reading accepts, the check of a table accepts
 abbrev pub PassesCheck : Type 0
 PassesCheck = (s : List ℕ) (t : Table) → readListing s ≡ accepted t → tableFault t ≡ Fine

@@ -9,12 +9,12 @@ use Rattle.table.specs.At.{taskAt, pairAt}
 use Rattle.field.specs.declared.Rounding.the-variants.{Down, Up}
 use Rattle.field.specs.Spelling.{RoundedTo}
 use Rattle.listing.specs.Read.{accepted, readListing}
-use Rattle.meaning.specs.Figures.{nothing, UseFigures, TaskFigures, Figures, StatesFigures, useFor}
+use Rattle.meaning.specs.Figures.{noTime, UseFigures, TaskFigures, Figures, StatesFigures, useFor}
 
 -- ---- the figures of a task by its slot, and of a resource by its slot, both counted from 0; zeros where there are none
 
 abbrev pub noFigures : TaskFigures
-noFigures = record { T = nothing; C = nothing; D = nothing; uses = [] }
+noFigures = record { T = noTime; C = noTime; D = noTime; uses = [] }
 
 abbrev pub taskFigures : Figures → ℕ → TaskFigures
 taskFigures f i = getD (f .tasks) i noFigures
@@ -32,4 +32,4 @@ pub record OnTheirSides (t : Table) (f : Figures) : Type 0 where
   pub CT : (i k : ℕ) → i < t .n → k < maxResources → RoundedTo Up (useFigures f i k .CT .typed) (pairAt t i k .total)
 
 abbrev pub Sides : Type 0
-Sides = (s : List ℕ) (t : Table) → readListing s ≡ accepted t → (f : Figures) × StatesFigures s f × OnTheirSides t f
+Sides = (s : List ℕ) (t : Table) (f : Figures) → readListing s ≡ accepted t → StatesFigures s f → OnTheirSides t f

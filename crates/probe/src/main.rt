@@ -1,4 +1,4 @@
-// A test program: hands a raw table of any numbers, or a listing, to one entry point of the library, and prints the answer and all that was lent.
+// A test program: hands a raw table of any numbers to one entry point of the library, or a listing to the reader, and prints the answer and all that was lent.
 // docs/PROBE.md describes its input. Its contracts say nothing: it is for comparing, and what it calls is proved elsewhere.
 ghost use Prim.Native.Nat.{_≤_};
 ghost use lib.ListN.{length};

@@ -22,6 +22,7 @@ use Rattle.analysis.specs.Answers.{boundOf, analysisFault, recordOf}
 use Rattle.analysis.proofs.ByIterates.{bound-known}
 use Rattle.analysis.proofs.RowLaws.{fits, count-fine, row-record, row-past, row-long}
 use Rattle.meaning.proofs.Meaning.{correct, complete, passes-check}
+use Rattle.meaning.proofs.OneReading.{unambiguous}
 use Rattle.meaning.proofs.Back.{text-fits, reads-back, cleared-same, rewrites, same-text}
 use Rattle.promises.specs.Demand2.{demandIn, deadlineIn, RightVerdict, RightRow, Demand2}
 
@@ -66,6 +67,7 @@ demand2 =
       rows = right-row;
       correct = correct;
       complete = complete;
+      unambiguous = unambiguous;
       passes-check = passes-check;
       text-fits = text-fits;
       reads-back = reads-back;

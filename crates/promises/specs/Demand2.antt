@@ -15,7 +15,7 @@ use Rattle.analysis.specs.declared.Record.{Record}
 use Rattle.theory.specs.Tables.{viewOf}
 use Rattle.analysis.specs.Answers.{boundOf, analysisFault, analysed}
 use Rattle.basics.specs.Exactly.{_exactly-if_}
-use Rattle.meaning.specs.Meaning.{Correct, Complete, PassesCheck}
+use Rattle.meaning.specs.Meaning.{Correct, Complete, Unambiguous, PassesCheck}
 use Rattle.meaning.specs.Back.{TextFits, ReadsBack, ClearedSame, Rewrites, SameText}
 
 -- the demand and the deadline of a task, by its slot, counted from 0
@@ -56,6 +56,7 @@ pub record Demand2 : Type 0 where
   -- the table of an accepted listing holds exactly the figures that its lines state
   pub correct : Correct
   pub complete : Complete
+  pub unambiguous : Unambiguous
   pub passes-check : PassesCheck
   -- a written listing reads back as the same table, and an accepted listing rewritten and read again gives the same table
   pub text-fits : TextFits

@@ -137,7 +137,7 @@ fn reading(listing: &[u8]) -> Vec<u8> {
 }
 
 /// Listings that are read, and the table that each gives written again. A report shows a few bounds; this shows every figure that was read, and of a
-/// refused listing that its table is the empty one.
+/// refused listing that its table has no task.
 pub fn readings(program: &str) -> bool {
     let mut tally = Tally::new();
     for listing in compare::listings().iter().filter(|listing| listing.len() <= LISTING) {
