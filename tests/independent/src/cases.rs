@@ -201,29 +201,20 @@ pub fn tasks(n: usize) -> String {
     format!("cpus 4\n{}", "task 100 0.1 100\n".repeat(n))
 }
 
-/// Every pair in use, each field as long as it can be spelled with three decimals. The benchmark keeps to it, so that its figures can be
-/// compared with earlier ones.
-fn largest() -> String {
-    let mut text = String::from("cpus 0004\n");
-    for _ in 0..32 {
-        text.push_str("task 10000.000 00016.000 10000.000\n");
-        for k in 1..=16 {
-            text.push_str(&format!("use {k:04} 1000 00000.001 00000.999\n"));
-        }
-    }
-    text
+/// Every pair in use: a task with sixteen locks, 32 times.
+fn every_pair(task: &str, lock: &str) -> String {
+    let uses: String = (1..=16).map(|k| format!("use {k:04} 1000 {lock}\n")).collect();
+    format!("cpus 0004\n{}", format!("task {task}\n{uses}").repeat(32))
 }
 
-/// Every pair in use, each field as long as it can be spelled: the longest listing that is accepted.
+/// Each field as long as it can be spelled with three decimals. The benchmark keeps to it, so that its figures can be compared with earlier ones.
+fn largest() -> String {
+    every_pair("10000.000 00016.000 10000.000", "00000.001 00000.999")
+}
+
+/// Each field as long as it can be spelled: the longest listing that is accepted.
 pub fn longest() -> String {
-    let mut text = String::from("cpus 0004\n");
-    for _ in 0..32 {
-        text.push_str("task 10000.000000 00016.000000 10000.000000\n");
-        for k in 1..=16 {
-            text.push_str(&format!("use {k:04} 1000 00000.000001 00000.999999\n"));
-        }
-    }
-    text
+    every_pair("10000.000000 00016.000000 10000.000000", "00000.000001 00000.999999")
 }
 
 /// One task above that never lets go makes the demand of the one below climb by one a round.
