@@ -1,4 +1,4 @@
--- The meaning said twice (specs/Spelling.antt) agrees: a count reads as v exactly if it states v, a time exactly if what it types is rounded to v.
+-- The meaning said twice (specs/Spelling.antt) agrees: a count reads as v exactly if it states v, a time exactly if what it spells is rounded to v.
 -- Assumes nothing.
 use Prim.Native.Nat.{ℕ, _+_, _-_, _*_, _^_, _≤_}
 use mathlib.Core.Path.{_≡_, refl, sym, ap, _∙_}

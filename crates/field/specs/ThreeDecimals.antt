@@ -1,5 +1,5 @@
 -- A time as document 01 has it, "one to five digits, then optionally a point and one to three digits", read to the microsecond: what request 1/12 of document 02
--- means by 'as before'. Nothing is read by it any more; the promise that short fields read as before speaks of it.
+-- means by 'as before'. Nothing is read by it any more; the promise that fields with at most three decimals read as before speaks of it.
 use Prim.Native.Nat.{ℕ, _+_}
 use mathlib.Core.Bool.{_&&_}
 use mathlib.Core.List.{List, [], _∷_, _++_}

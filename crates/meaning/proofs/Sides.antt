@@ -1,5 +1,5 @@
 -- Each figure of an accepted listing's table lies on its side of what was typed (specs/Sides.antt).
--- Assumes noTime.
+-- Assumes nothing.
 use Prim.Native.Nat.{ℕ, zero, suc, _≤_, _<_}
 use mathlib.Core.Path.{_≡_, refl, ap, _∙_}
 use mathlib.Core.Bool.{Bool, true, false}

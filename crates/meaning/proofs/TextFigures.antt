@@ -1,6 +1,6 @@
 -- The text of an accepted table states figures that obey the rules, and the table that holds them is the table itself, with zeros past
 -- the nth task.
--- Assumes noTime.
+-- Assumes nothing.
 use Prim.Native.Nat.{ℕ, zero, suc, _+_, _≤_, _<_}
 use mathlib.Core.Path.{_≡_, refl, sym, ap, _∙_}
 use mathlib.Core.List.{List, [], _∷_, _++_, append-assoc}
