@@ -3,7 +3,7 @@
 use Prim.Native.Nat.{ℕ, zero, suc, _+_, _*_, _≤_, _<_}
 use mathlib.Core.Path.{_≡_, refl, sym, ap, _∙_}
 use mathlib.Core.Bool.{true}
-use mathlib.Core.List.{List, [], _∷_, _++_}
+use mathlib.Core.List.{List, [], _∷_, _++_, append-nil}
 use native.Mathlib.Omega.{arith}
 use lib.ListN.{length, drop, length-append}
 use lib.Seq.{drop-drop}
@@ -42,11 +42,12 @@ fraction-before way v at s h = rw (short-within (length (digits s)) h, short-rou
 
 -- ---- the decimals of a field
 
-decimals-after : (w z : List ℕ) → Digits w → decimals (w ++ (46 ∷ z)) ≡ length z
-decimals-after [] z none = refl
-decimals-after (b ∷ w) z (one d r) =
+-- digits before the point do not count
+decimals-past : (w z : List ℕ) → Digits w → decimals (w ++ z) ≡ decimals z
+decimals-past [] z none = refl
+decimals-past (b ∷ w) z (one d r) =
     let h = within-true 48 57 b d in
-    rw (ne-eqb b 46 (λ q. omega arith)) (decimals-after w z r)
+    rw (ne-eqb b 46 (λ q. omega arith)) (decimals-past w z r)
 
 digits-in-first : (s : List ℕ) → length (digits s) ≤ length (first s)
 digits-in-first s = omega (arith, ap length (first-split s), length-append (digits s) (first (drop (length (digits s)) s)))
@@ -57,7 +58,7 @@ few-decimals : (s : List ℕ) → let n = length (digits s) in
 few-decimals s p h =
     let n = length (digits s) in
     let e = first-split s ∙ ap (λ (x : List ℕ). digits s ++ x) (first-point (drop n s) p ∙ ap (λ (x : List ℕ). 46 ∷ first x) (drop-drop 1 n s)) in
-    let d = ap decimals e ∙ decimals-after (digits s) (first (drop (n + 1) s)) (digits-are s) in
+    let d = ap decimals e ∙ decimals-past (digits s) (46 ∷ first (drop (n + 1) s)) (digits-are s) in
     omega (arith, digits-in-first (drop (n + 1) s))
 
 pub time-before : (way : Rounding) (s : List ℕ) → decimals (first s) ≤ 3 → timeField way s ≡ shortTime s
@@ -72,18 +73,12 @@ time-before way s h =
 
 -- ---- seven decimals and more
 
-decimals-none : (w : List ℕ) → Digits w → decimals w ≡ 0
-decimals-none [] none = refl
-decimals-none (b ∷ w) (one d r) =
-    let h = within-true 48 57 b d in
-    rw (ne-eqb b 46 (λ q. omega arith)) (decimals-none w r)
-
 pub time-seven : (way : Rounding) (s : List ℕ) → 6 < decimals (first s) → timeField way s ≡ Bad
 time-seven way s h = go (timeField way s) refl
   where
     few : {v n : ℕ} → TimeRead way s v n → decimals (first s) ≤ 6
-    few (read-whole a z) = omega (arith, ap decimals (a .all) ∙ decimals-none (digits s) (digits-are s))
-    few (read-pointed {f} b a r z) = omega (arith, r .few, ap decimals a ∙ decimals-after (digits s) (digits f) (digits-are s))
+    few (read-whole a z) = omega (arith, ap decimals (a .all ∙ sym (append-nil (digits s))) ∙ decimals-past (digits s) [] (digits-are s))
+    few (read-pointed {f} b a r z) = omega (arith, r .few, ap decimals a ∙ decimals-past (digits s) (46 ∷ digits f) (digits-are s))
 
     go : (x : Field) → timeField way s ≡ x → timeField way s ≡ Bad
     go (Value v n) e = absurd (omega (arith, few (time-read way s v n e)))

@@ -1,4 +1,4 @@
-//! A second analyser, written from the paper and the change requests alone, to hold the proved one to. It shares no line with it.
+//! A second analyser, written from the paper and the change requests and not from the proved one, to hold that to. It shares no line with it.
 //!
 //!     independent report < LISTING          what `report` is to print
 //!     independent rounds < LISTING          how many demands the iteration works out, all tasks together
