@@ -21,11 +21,12 @@ use Rattle.basics.proofs.FillLaws.{whole-part}
 use Rattle.line.specs.declared.Past.{Past}
 use Rattle.line.specs.declared.Said.{Said}
 use Rattle.line.specs.declared.Said.the-variants.{Task as TaskLine, Use, Not}
-use Rattle.listing.specs.declared.Reading.{Reading}
+use Rattle.table.specs.declared.Reading.{Reading}
 use Rattle.listing.specs.Lines.{lines, endsInLF}
 use Rattle.listing.specs.FirstLine.{line}
 use Rattle.line.specs.Line.{lineSays}
-use Rattle.listing.specs.Read.{fresh, pastAfter, tableAfter, refused, onSaid, readEnd, readLines, readListing}
+use Rattle.table.specs.Answers.{refused}
+use Rattle.listing.specs.Read.{fresh, pastAfter, tableAfter, onSaid, readEnd, readLines, readListing}
 use Rattle.listing.proofs.LineLaws.{line-within, line-take, lines-more, lines-none, endsInLF-more, endsInLF-open}
 use Rattle.line.proofs.LineRules.{Line, is-cpus, is-task, is-use, is-not}
 use Rattle.line.proofs.Says.{line-is}

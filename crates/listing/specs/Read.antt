@@ -8,17 +8,16 @@ use Rattle.basics.specs.Choice.{pick}
 use Rattle.table.specs.declared.Pair.{Pair}
 use Rattle.table.specs.declared.Task.{Task}
 use Rattle.table.specs.declared.Table.{Table}
-use Rattle.table.specs.declared.Fault.{Fault}
 use Rattle.table.specs.declared.Fault.the-variants.{TooLong, BadForm, NoTask}
-use Rattle.table.specs.declared.Checked.the-variants.{Fine, Refused}
+use Rattle.table.specs.declared.Reading.{Reading}
 use Rattle.table.specs.Limits.{maxResources, maxListing}
 use Rattle.table.specs.Empty.{unusedPair, emptyTable}
 use Rattle.table.specs.At.{taskAt}
+use Rattle.table.specs.Answers.{notRead, refused, accepted}
 use Rattle.line.specs.declared.Past.{Past}
 use Rattle.line.specs.declared.Said.{Said}
 use Rattle.line.specs.declared.Said.the-variants.{Cpus, Task as TaskLine, Use, Not}
 use Rattle.line.specs.Line.{lineSays}
-use Rattle.listing.specs.declared.Reading.{Reading}
 use Rattle.listing.specs.Lines.{lines, endsInLF}
 
 -- ---- what the lines so far leave
@@ -54,19 +53,12 @@ tableAfter t tasks (Not r) = t
 
 -- ---- a listing
 
--- "A refused reading gives no table": it gives the empty one
-abbrev pub refused : Fault → ℕ → Reading
-refused fault place = record { answer = Refused (record { fault = fault; place = place }); table = emptyTable }
-
-abbrev pub accepted : Table → Reading
-accepted t = record { answer = Fine; table = t }
-
 -- goes on with what is left, unless the line was refused
 abbrev pub onSaid : Said → Reading → Reading
 onSaid (Cpus M) rest = rest
 onSaid (TaskLine T C D) rest = rest
 onSaid (Use K p) rest = rest
-onSaid (Not r) rest = record { answer = Refused r; table = emptyTable }
+onSaid (Not r) rest = notRead r
 
 -- at the end, before line n: a line at all, the last one closed (2); a task (9, place 2)
 unfoldable pub readEnd : Table → Past → ℕ → Bool → Reading

@@ -13,7 +13,8 @@ use Rattle.table.specs.declared.Checked.the-variants.{Fine}
 use Rattle.table.specs.Empty.{unusedPair, emptyTask}
 use Rattle.table.specs.At.{aPair, aTask}
 use Rattle.table.specs.Faults.{at}
-use Rattle.listing.specs.Read.{readListing, newTask, accepted, refused}
+use Rattle.table.specs.Answers.{accepted, refused}
+use Rattle.listing.specs.Read.{readListing, newTask}
 
 pub record Case : Type 0 where
   pub text : String

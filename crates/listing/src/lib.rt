@@ -4,23 +4,19 @@ ghost use mathlib.Core.Bool.{true};
 ghost use Prim.Native.Nat.{_-_, _≤_};
 ghost use lib.ListN.{length};
 ghost use Rattle.table.specs.Limits.{maxTasks, maxResources, maxTime, maxListing};
+ghost use Rattle.table.specs.Answers.{refused};
 ghost use Rattle.listing.specs.FirstLine.{line};
-ghost use Rattle.listing.specs.Read.{newTask, pastAfter, refused, withPair, readEnd, readListing};
+ghost use Rattle.listing.specs.Read.{newTask, pastAfter, withPair, readEnd, readListing};
 use line::Past;
 use line::Said;
 use table::Checked;
 use table::Fault;
 use table::Pair;
+use table::Reading;
 use table::Refusal;
 use table::Resource;
 use table::Table;
 use table::Task;
-
-// The table that a listing says; or the refusal, with the empty table.
-pub struct Reading {
-    pub answer: Checked,
-    pub table: Table,
-}
 
 // What a line leaves for the next one to be judged by.
 fn after(past: Past, said: Said) -> Past

@@ -1,7 +1,7 @@
 -- Reading what was written (specs/Back.antt).
 -- Assumes nothing.
 use Prim.Native.Nat.{ℕ, zero, suc, _≤_, _<_}
-use mathlib.Core.Path.{_≡_, refl, sym, ap, _∙_}
+use mathlib.Core.Path.{_≡_, ap, _∙_}
 use mathlib.Core.Bool.{Bool, true, false}
 use mathlib.Core.List.{List, [], _∷_}
 use native.Mathlib.Omega.{arith}
@@ -16,15 +16,16 @@ use Rattle.table.specs.Limits.{maxTasks, maxResources}
 use Rattle.table.specs.Empty.{unusedPair, emptyTask}
 use Rattle.table.specs.At.{noTask, taskAt, pairOf, SameTask}
 use Rattle.table.specs.Accepted.{GoodTask}
+use Rattle.table.specs.Cleared.{clearedTask, cleared}
 use Rattle.table.proofs.RuleLaws.{PairBounds, pair-bounds}
 use Rattle.table.proofs.Acceptance.{fine-accepted}
 use Rattle.put.specs.Text.{countText}
 use Rattle.meaning.proofs.FieldBack.{count-text}
 use Rattle.put.proofs.TimeLaws.{time-length}
-use Rattle.listing.specs.Read.{accepted}
+use Rattle.table.specs.Answers.{accepted}
 use Rattle.meaning.specs.Figures.{TaskFigures, Figures, pairFor, taskOf, taskFor, tableOf}
 use Rattle.writing.specs.Write.{useText, pairText, taskText, textOf}
-use Rattle.meaning.specs.Back.{clearedTask, cleared, TextFits, ReadsBack, ClearedSame, Rewrites, SameText}
+use Rattle.meaning.specs.Back.{TextFits, ReadsBack, Rewrites, SameText}
 use Rattle.basics.proofs.RowLaws.{row-at, row-eq}
 use Rattle.meaning.proofs.TableLaws.{table}
 use Rattle.meaning.proofs.Meaning.{correct, complete, passes-check}
@@ -83,17 +84,6 @@ pub reads-back : ReadsBack
 reads-back t e =
     let r = text-states t (fine-accepted t e) in
     rw (r .3) (complete (textOf t) (r .0) (text-fits t e) (r .1) (r .2))
-
-pub cleared-same : ClearedSame
-unfolding cleared clearedTask
-cleared-same t e =
-    record {
-      cpus = refl;
-      n = refl;
-      tasks = λ i h.
-          rw (row-at maxTasks i _ noTask (omega (arith, fine-accepted t e .tasks-most)), lt-ltb i (t .n) h)
-          (record { period = refl; run = refl; deadline = refl; pairs = λ k l. sym (row-at maxResources k (pairOf (taskAt t i)) unusedPair l) });
-    }
 
 -- ---- a table that holds figures is clear already
 

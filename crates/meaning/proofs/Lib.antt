@@ -15,7 +15,7 @@
 --   ListingRefusals   refused-as-called
 --   FieldBack     the text of a number states it, and is read back
 --   TextFigures   the text of an accepted table states its figures
---   Back          text-fits, reads-back, cleared-same, rewrites, same-text
+--   Back          text-fits, reads-back, rewrites, same-text
 pub mod SplitLaws
 pub mod WordLaws
 pub mod SaysLaws

@@ -20,7 +20,8 @@ use Rattle.line.specs.declared.Said.the-variants.{Cpus}
 use Rattle.line.specs.Fields.{form}
 use Rattle.listing.specs.Lines.{lines, endsInLF}
 use Rattle.line.specs.Line.{countIn, lineSays}
-use Rattle.listing.specs.Read.{fresh, pastAfter, tableAfter, accepted, refused, onSaid, readEnd, readLines, readListing}
+use Rattle.table.specs.Answers.{accepted, refused}
+use Rattle.listing.specs.Read.{fresh, pastAfter, tableAfter, onSaid, readEnd, readLines, readListing}
 use Rattle.meaning.specs.Figures.{UseFigures, Figures, StatesUses, StatesFigures, cpus-line, GoodUses, GoodFigures, tableOf}
 use Rattle.meaning.specs.Meaning.{Correct, Complete, PassesCheck}
 use Rattle.line.proofs.LineRules.{CpusRules, Line, is-cpus, is-task, is-use, is-not}

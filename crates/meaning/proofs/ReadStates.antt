@@ -21,11 +21,12 @@ use Rattle.field.specs.declared.Rounding.the-variants.{Down, Up}
 use Rattle.line.specs.declared.Past.{Past}
 use Rattle.line.specs.declared.Said.{Said}
 use Rattle.line.specs.declared.Said.the-variants.{Task as TaskLine, Use}
-use Rattle.listing.specs.declared.Reading.{Reading}
+use Rattle.table.specs.declared.Reading.{Reading}
 use Rattle.line.specs.Fields.{others, form}
 use Rattle.listing.specs.Lines.{lines, endsInLF}
 use Rattle.line.specs.Line.{countIn, timeIn, lineSays}
-use Rattle.listing.specs.Read.{fresh, pastAfter, tableAfter, accepted, refused, onSaid, readEnd, readLines}
+use Rattle.table.specs.Answers.{accepted, refused}
+use Rattle.listing.specs.Read.{fresh, pastAfter, tableAfter, onSaid, readEnd, readLines}
 use Rattle.meaning.specs.Figures.{UseFigures, TaskFigures, StatesUses, use-line, StatesTasks, task-line, GoodUses, GoodTasks}
 use Rattle.line.proofs.LineRules.{TaskRules, UseRules, Line, is-cpus, is-task, is-use, is-not}
 use Rattle.line.proofs.Says.{line-is}

@@ -20,7 +20,7 @@ use Rattle.table.specs.Empty.{emptyTable}
 use Rattle.line.specs.declared.Past.{Past}
 use Rattle.line.specs.declared.Said.{Said}
 use Rattle.line.specs.declared.Said.the-variants.{Cpus, Task as TaskLine, Use, Not}
-use Rattle.listing.specs.declared.Reading.{Reading}
+use Rattle.table.specs.declared.Reading.{Reading}
 use Rattle.listing.specs.Lines.{onto, lines, endsInLF}
 use Rattle.listing.specs.Read.{fresh, pastAfter, tableAfter, onSaid, readLines}
 use Rattle.meaning.specs.Refusals.{pastTo, saidAt, Say, EndsInLF}

@@ -17,8 +17,9 @@ use Rattle.table.specs.Empty.{emptyTable}
 use Rattle.line.specs.declared.Past.{Past}
 use Rattle.line.specs.declared.Said.{Said}
 use Rattle.line.specs.declared.Said.the-variants.{Cpus, Task as TaskLine, Use, Not}
-use Rattle.listing.specs.declared.Reading.{Reading}
-use Rattle.listing.specs.Read.{accepted, refused, onSaid, readEnd, readLines, readListing}
+use Rattle.table.specs.declared.Reading.{Reading}
+use Rattle.table.specs.Answers.{accepted, refused}
+use Rattle.listing.specs.Read.{onSaid, readEnd, readLines, readListing}
 use Rattle.line.specs.Line.{lineSays}
 
 -- what a reading gives where it is refused, at its end and at each line

@@ -14,11 +14,12 @@ use Rattle.table.specs.Limits.{maxTasks}
 use Rattle.line.specs.declared.Past.{Past}
 use Rattle.line.specs.declared.Said.{Said}
 use Rattle.line.specs.declared.Said.the-variants.{Task as TaskLine, Use}
-use Rattle.listing.specs.declared.Reading.{Reading}
+use Rattle.table.specs.declared.Reading.{Reading}
 use Rattle.line.specs.Fields.{others, form}
 use Rattle.listing.specs.Lines.{lines, endsInLF}
 use Rattle.line.specs.Line.{lineSays}
-use Rattle.listing.specs.Read.{pastAfter, tableAfter, accepted, onSaid, readEnd, readLines}
+use Rattle.table.specs.Answers.{accepted}
+use Rattle.listing.specs.Read.{pastAfter, tableAfter, onSaid, readEnd, readLines}
 use Rattle.meaning.specs.Figures.{UseFigures, TaskFigures, StatesUses, use-line, StatesTasks, task-line, pairIn, GoodUses, GoodTasks}
 use Rattle.meaning.proofs.SaysLaws.{says-task, says-use}
 use Rattle.meaning.proofs.SplitLaws.{Word, Words, none, more, row-line}

@@ -24,7 +24,7 @@ use Rattle.field.specs.declared.Rounding.the-variants.{Down, Up}
 use Rattle.meaning.proofs.FieldBack.{count-text, exactly, time-text}
 use Rattle.meaning.specs.Figures.{UseFigures, TaskFigures, Figures, StatesUses, StatesTasks, StatesFigures, cpus-line, GoodUses, GoodTasks, GoodFigures, pairFor, taskOf, taskFor, tableOf}
 use Rattle.writing.specs.Write.{useText, pairText, taskText, textOf}
-use Rattle.meaning.specs.Back.{clearedTask, cleared}
+use Rattle.table.specs.Cleared.{clearedTask, cleared}
 use Rattle.basics.proofs.RowLaws.{row-eq}
 
 -- ---- a task's uses

@@ -3,30 +3,15 @@ use Prim.Native.Nat.{ℕ, _≤_}
 use mathlib.Core.Path.{_≡_}
 use mathlib.Core.List.{List}
 use lib.ListN.{length}
-use lib.Dec.{ltb}
-use Rattle.basics.specs.Choice.{pick}
-use Rattle.basics.specs.Over.{rowTo}
-use Rattle.table.specs.declared.Task.{Task}
 use Rattle.table.specs.declared.Table.{Table}
 use Rattle.table.specs.declared.Checked.the-variants.{Fine}
-use Rattle.table.specs.Limits.{maxListing, maxTasks, maxResources}
-use Rattle.table.specs.Empty.{emptyTask}
-use Rattle.table.specs.At.{taskAt, pairOf, Same}
+use Rattle.table.specs.Limits.{maxListing}
+use Rattle.table.specs.At.{Same}
 use Rattle.table.specs.Rules.{tableFault}
-use Rattle.listing.specs.Read.{accepted, readListing}
+use Rattle.table.specs.Answers.{accepted}
+use Rattle.table.specs.Cleared.{cleared}
+use Rattle.listing.specs.Read.{readListing}
 use Rattle.writing.specs.Write.{textOf}
-
--- a table with zeros past the nth task
-unfoldable pub clearedTask : Task → Task
-clearedTask x = record { period = x .period; run = x .run; deadline = x .deadline; pairs = rowTo maxResources (pairOf x) }
-
-unfoldable pub cleared : Table → Table
-cleared t =
-    record {
-      cpus = t .cpus;
-      n = t .n;
-      tasks = rowTo maxTasks (λ i. pick (ltb i (t .n)) (clearedTask (taskAt t i)) emptyTask);
-    }
 
 -- no accepted table's text is longer than a listing may be
 abbrev pub TextFits : Type 0
@@ -35,10 +20,6 @@ TextFits = (t : Table) → tableFault t ≡ Fine → length (textOf t) ≤ maxLi
 -- the text of an accepted table is read as that table, with zeros past the nth task
 abbrev pub ReadsBack : Type 0
 ReadsBack = (t : Table) → tableFault t ≡ Fine → readListing (textOf t) ≡ accepted (cleared t)
-
--- which is the same table
-abbrev pub ClearedSame : Type 0
-ClearedSame = (t : Table) → tableFault t ≡ Fine → Same t (cleared t)
 
 -- an accepted listing, rewritten, is read as the very table that it was read as
 abbrev pub Rewrites : Type 0

@@ -7,7 +7,8 @@ use Rattle.table.specs.declared.Table.{Table}
 use Rattle.table.specs.declared.Checked.the-variants.{Fine}
 use Rattle.table.specs.Limits.{maxListing}
 use Rattle.table.specs.Rules.{tableFault}
-use Rattle.listing.specs.Read.{accepted, readListing}
+use Rattle.table.specs.Answers.{accepted}
+use Rattle.listing.specs.Read.{readListing}
 use Rattle.meaning.specs.Figures.{Figures, StatesFigures, GoodFigures, tableOf}
 
 -- an accepted listing states figures that obey the rules, and its table holds exactly those

@@ -8,7 +8,8 @@ use Rattle.table.specs.Limits.{maxResources}
 use Rattle.table.specs.At.{taskAt, pairAt}
 use Rattle.field.specs.declared.Rounding.the-variants.{Down, Up}
 use Rattle.field.specs.Spelling.{RoundedTo}
-use Rattle.listing.specs.Read.{accepted, readListing}
+use Rattle.table.specs.Answers.{accepted}
+use Rattle.listing.specs.Read.{readListing}
 use Rattle.meaning.specs.Figures.{noTime, UseFigures, TaskFigures, Figures, StatesFigures, useFor}
 
 -- ---- the figures of a task by its slot, and of a resource by its slot, both counted from 0; zeros where there are none

@@ -13,8 +13,9 @@ use Rattle.table.specs.declared.Table.{Table}
 use Rattle.table.specs.Limits.{maxTasks}
 use Rattle.table.specs.Faults.{_then_}
 use Rattle.table.proofs.Acceptance.{fine-accepted}
-use Rattle.listing.specs.declared.Reading.{Reading}
-use Rattle.listing.specs.Read.{accepted, readListing}
+use Rattle.table.specs.declared.Reading.{Reading}
+use Rattle.table.specs.Answers.{accepted}
+use Rattle.listing.specs.Read.{readListing}
 use Rattle.meaning.proofs.Meaning.{passes-check}
 use Rattle.analysis.specs.Answers.{analysisFault}
 use Rattle.page.specs.Report.{orRefusal, pageText, taskRow, reportText}

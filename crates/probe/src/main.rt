@@ -12,8 +12,8 @@ use table::Pair;
 use table::Refusal;
 use table::Table;
 use table::Task;
+use table::Written;
 use theory::Verdict;
-use writing::Written;
 
 // The words of a task, and the words and bytes of a request: an entry point, its argument, m, n in two words, and 32 tasks.
 const TASK: usize = 3 + 3 * Table::MAX_RESOURCES;

@@ -23,7 +23,8 @@ use Rattle.analysis.proofs.ByIterates.{bound-known}
 use Rattle.analysis.proofs.RowLaws.{fits, count-fine, row-record, row-past, row-long}
 use Rattle.meaning.proofs.Meaning.{correct, complete, passes-check}
 use Rattle.meaning.proofs.OneReading.{unambiguous}
-use Rattle.meaning.proofs.Back.{text-fits, reads-back, cleared-same, rewrites, same-text}
+use Rattle.table.proofs.Sameness.{cleared-same}
+use Rattle.meaning.proofs.Back.{text-fits, reads-back, rewrites, same-text}
 use Rattle.promises.specs.Demand2.{demandIn, deadlineIn, RightVerdict, RightRow, Demand2}
 
 module _ (t : Table) (i : ℕ) (fine : tableFault t ≡ Fine) (h : i < t .n) where

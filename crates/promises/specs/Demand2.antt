@@ -6,6 +6,7 @@ use lib.ListN.{length, getD, drop}
 use Rattle.table.specs.declared.Table.{Table}
 use Rattle.table.specs.declared.Checked.the-variants.{Fine}
 use Rattle.table.specs.Rules.{tableFault}
+use Rattle.table.specs.Cleared.{ClearedSame}
 use Rattle.theory.specs.declared.Verdict.the-variants.{Meets, Misses}
 use Rattle.theory.specs.View.{level}
 use Rattle.theory.specs.Demand.{demandOf}
@@ -16,7 +17,7 @@ use Rattle.theory.specs.Tables.{viewOf}
 use Rattle.analysis.specs.Answers.{boundOf, analysisFault, analysed}
 use Rattle.basics.specs.Exactly.{_exactly-if_}
 use Rattle.meaning.specs.Meaning.{Correct, Complete, Unambiguous, PassesCheck}
-use Rattle.meaning.specs.Back.{TextFits, ReadsBack, ClearedSame, Rewrites, SameText}
+use Rattle.meaning.specs.Back.{TextFits, ReadsBack, Rewrites, SameText}
 
 -- the demand and the deadline of a task, by its slot, counted from 0
 abbrev pub demandIn : Table → ℕ → ℕ → ℕ

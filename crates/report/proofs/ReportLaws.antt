@@ -21,7 +21,7 @@ use Rattle.put.specs.Text.{countText}
 use Rattle.put.proofs.TextLaws.{count-length, width-most}
 use Rattle.theory.specs.declared.Verdict.{Verdict}
 use Rattle.theory.specs.declared.Verdict.the-variants.{Meets, Misses}
-use Rattle.listing.specs.declared.Reading.{Reading}
+use Rattle.table.specs.declared.Reading.{Reading}
 use Rattle.listing.specs.Read.{readListing}
 use Rattle.analysis.specs.declared.Record.{Record}
 use Rattle.analysis.specs.Answers.{analysisFault, recordCount, recordOf, analysed}

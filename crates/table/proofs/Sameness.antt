@@ -1,17 +1,22 @@
--- "The same" is an equivalence of tables, and the check cannot tell two tables apart that are the same.
+-- "The same" is an equivalence of tables, and the check cannot tell two tables apart that are the same. A table is the same with zeros past its nth task.
 -- Assumes nothing.
 use Prim.Native.Nat.{ℕ, _+_, _≤_}
 use mathlib.Core.Path.{_≡_, refl, sym, ap, _∙_}
 use native.Mathlib.Omega.{arith}
+use borrow.Author.Tests.{lt-ltb}
 use Rattle.basics.specs.Over.{sumTo}
 use Rattle.basics.proofs.SumLaws.{sum-eq}
+use Rattle.basics.proofs.RowLaws.{row-at}
 use Rattle.table.specs.declared.Pair.{Pair}
 use Rattle.table.specs.declared.Task.{Task}
 use Rattle.table.specs.declared.Table.{Table}
-use Rattle.table.specs.Limits.{maxResources}
-use Rattle.table.specs.At.{totalOf, SameTask, Same}
+use Rattle.table.specs.Limits.{maxTasks, maxResources}
+use Rattle.table.specs.Empty.{unusedPair}
+use Rattle.table.specs.At.{noTask, taskAt, pairOf, totalOf, SameTask, Same}
 use Rattle.table.specs.Faults.{firstFault}
 use Rattle.table.specs.Rules.{pairFaultOf, pairsFault, taskFault, taskFaultAt, tasksFault, tableFault}
+use Rattle.table.specs.Cleared.{clearedTask, cleared, ClearedSame}
+use Rattle.table.proofs.Acceptance.{fine-accepted}
 use Rattle.table.proofs.FirstLaws.{first-same}
 
 pub same-refl : (a : Table) → Same a a
@@ -66,3 +71,15 @@ same-fault a b s =
     let e : firstFault (a .n) (taskFaultAt a) ≡ firstFault (b .n) (taskFaultAt b) =
     rw (s .n) (first-same (b .n) (taskFaultAt a) (taskFaultAt b) (λ i h. task-same (i + 1) _ _ (s .tasks i (rw (s .n) h)))) in
     rw (e, s .cpus, s .n)
+
+-- a table with zeros past the nth task is the same
+pub cleared-same : ClearedSame
+unfolding cleared clearedTask
+cleared-same t e =
+    record {
+      cpus = refl;
+      n = refl;
+      tasks = λ i h.
+          rw (row-at maxTasks i _ noTask (omega (arith, fine-accepted t e .tasks-most)), lt-ltb i (t .n) h)
+          (record { period = refl; run = refl; deadline = refl; pairs = λ k l. sym (row-at maxResources k (pairOf (taskAt t i)) unusedPair l) });
+    }

@@ -43,6 +43,9 @@ pub enum Fault {
     NoTask,
     UnknownTask,
     TooShort,
+    BadLength,
+    BadBlock,
+    Mismatch,
 }
 
 // A fault, and the line or the task it was found at.
@@ -54,6 +57,18 @@ pub struct Refusal {
 pub enum Checked {
     Fine,
     Refused(Refusal),
+}
+
+// What a reader of a table answers: the table that was read; or the refusal, with the empty table.
+pub struct Reading {
+    pub answer: Checked,
+    pub table: Table,
+}
+
+// What a writer of a table answers: how many bytes were written, or why none were.
+pub enum Written {
+    Wrote(usize),
+    NotWritten(Refusal),
 }
 
 impl Fault {
@@ -73,6 +88,9 @@ impl Fault {
             Fault::NoTask => 9,
             Fault::UnknownTask => 10,
             Fault::TooShort => 11,
+            Fault::BadLength => 12,
+            Fault::BadBlock => 13,
+            Fault::Mismatch => 14,
         }
     }
 }

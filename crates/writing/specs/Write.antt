@@ -1,7 +1,7 @@
 -- A table to a listing (document 01, "The listing"): the text of a table, and what the writer answers.
 use Prim.Native.Nat.{ℕ, suc}
 use mathlib.Core.List.{List, [], _∷_, _++_}
-use lib.ListN.{length, drop}
+use lib.ListN.{length}
 use lib.Dec.{ltb, leb}
 use Rattle.basics.specs.Choice.{pick}
 use Rattle.basics.specs.Over.{joinTo}
@@ -10,14 +10,13 @@ use Rattle.table.specs.declared.Task.{Task}
 use Rattle.table.specs.declared.Table.{Table}
 use Rattle.table.specs.declared.Fault.the-variants.{TooShort}
 use Rattle.table.specs.declared.Checked.{Checked}
-use Rattle.table.specs.declared.Checked.the-variants.{Fine, Refused}
+use Rattle.table.specs.declared.Written.{Written}
 use Rattle.table.specs.Limits.{maxResources}
 use Rattle.table.specs.At.{taskAt, pairOf}
 use Rattle.table.specs.Faults.{_then_, unless}
+use Rattle.table.specs.Answers.{orWrote, orText}
 use Rattle.table.specs.Rules.{tableFault}
 use Rattle.put.specs.Text.{countText, timeText}
-use Rattle.writing.specs.declared.Written.{Written}
-use Rattle.writing.specs.declared.Written.the-variants.{Wrote, NotWritten}
 use Rattle.basics.specs.Text.{lineOf}
 
 -- ---- the text of a table
@@ -46,17 +45,8 @@ textOf t = lineOf "cpus" (countText (t .cpus) ∷ []) ++ joinTo (t .n) (λ i. ta
 unfoldable pub writeFault : Table → ℕ → Checked
 writeFault t room = tableFault t then unless (leb (length (textOf t)) room) TooShort 0
 
-abbrev pub orWrote : Checked → ℕ → Written
-orWrote Fine n = Wrote n
-orWrote (Refused r) n = NotWritten r
-
 unfoldable pub writeAnswer : Table → ℕ → Written
 writeAnswer t room = orWrote (writeFault t room) (length (textOf t))
-
--- "a refused writing .. writes nothing"; "after success the bytes .. past the last one written are unchanged"
-abbrev pub orText : Checked → List ℕ → List ℕ → List ℕ
-orText Fine text out = text ++ drop (length text) out
-orText (Refused r) text out = out
 
 unfoldable pub written : Table → List ℕ → List ℕ
 written t out = orText (writeFault t (length out)) (textOf t) out

@@ -6,14 +6,9 @@ use table::Checked;
 use table::Fault;
 use table::Refusal;
 use table::Table;
+use table::Written;
 
 mod text;
-
-// How many bytes were written, or why none were.
-pub enum Written {
-    Wrote(usize),
-    NotWritten(Refusal),
-}
 
 // The text of a table, at the start of out.
 pub fn write(t: Table, out: &mut [u8]) -> Written

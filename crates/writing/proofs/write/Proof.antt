@@ -3,8 +3,8 @@ use mathlib.Core.Path.{_≡_, refl, sym, ap, _∙_}
 use native.Mathlib.Omega.{arith}
 use borrow.Author.Tests.{le-leb, lt-leb}
 use Rattle.table.specs.declared.Checked.the-variants.{Fine}
+use Rattle.table.specs.declared.Written.the-variants.{Wrote}
 use Rattle.table.specs.Rules.{tableFault}
-use Rattle.writing.specs.declared.Written.the-variants.{Wrote}
 use Rattle.writing.specs.Write.{writeFault, writeAnswer, written}
 use borrow.Author.Needs.{needs}
 use Rattle.writing.proofs.write.Statement.{statement}
