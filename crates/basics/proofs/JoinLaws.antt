@@ -1,7 +1,7 @@
 -- The laws of the parts joined, over the indices below n.
 -- Assumes nothing.
 use Prim.Native.Nat.{ℕ, zero, suc, _+_, _*_, _≤_, _<_}
-use mathlib.Core.Path.{_≡_, refl}
+use mathlib.Core.Path.{_≡_, refl, _∙_}
 use mathlib.Core.List.{List, [], _++_, append-assoc, append-nil}
 use native.Mathlib.Nat.{le-refl}
 use native.Mathlib.Numerals.{add-one}
@@ -37,6 +37,13 @@ module _ {A : Type 0} where
 
   pub join-bound : (n b : ℕ) (f : ℕ → List A) → ((k : ℕ) → k < n → length (f k) ≤ b) → length (joinTo n f) ≤ n * b
   join-bound n b f le = rw join-length (sum-bound n b (λ k. length (f k)) le)
+
+  -- parts of one length
+  pub join-even : (n w : ℕ) (f : ℕ → List A) → ((k : ℕ) → k < n → length (f k) ≡ w) → length (joinTo n f) ≡ w * n
+  unfolding joinTo
+  join-even zero w f each = omega arith
+  join-even (suc n) w f each =
+      length-append (joinTo n f) (f n) ∙ omega (arith, join-even n w f (λ k l. each k (omega arith)), each n (le-refl (suc n)))
 
   -- what holds of the parts from k on, part by part from the last
   pub join-from : (P : ℕ → List A → Type 0) (n : ℕ) (f : ℕ → List A) → ((k : ℕ) (l : List A) → k < n → P (suc k) l → P k (f k ++ l)) → P n []

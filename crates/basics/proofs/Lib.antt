@@ -4,8 +4,8 @@
 --   MaxLaws          max-more, max-bound, max-le, max-rises, max-wider
 --   AllLaws          all-none, all-more, all-at, all-fails, all-hold
 --   FirstIndexLaws   first-none, first-more, First, first-is
---   JoinLaws         join-none, join-more, join-length, join-room, join-eq, join-bound, join-from
---   RowLaws          row-length, row-at, row-is, row-eq; over-length, over-none, over-more
+--   JoinLaws         join-none, join-more, join-length, join-room, join-eq, join-bound, join-even, join-from
+--   RowLaws          row-length, row-at, row-is, row-eq; over-length, over-none, over-more, over-same
 --   FillLaws         restAt, backAt, whole-part, rest-length, back-plain, back-length; Filled, filled-none, filled-bytes, filled-part, filled-byte,
 --                    filled-copy, filled-copied; put-none, put-all
 pub mod ChoiceLaws

@@ -1,14 +1,17 @@
 -- The laws of a row, by its places; and of a row whose first places are stored one by one.
 -- Assumes nothing.
-use Prim.Native.Nat.{ℕ, zero, suc, _+_, _≤_, _<_}
+use Prim.Native.Nat.{ℕ, zero, suc, _+_, _-_, _≤_, _<_}
 use mathlib.Core.Path.{_≡_, refl, sym, ap, subst, _∙_}
 use mathlib.Core.List.{List, [], _∷_, _++_}
 use native.Mathlib.Omega.{arith}
 use native.Mathlib.Numerals.{add-one}
 use native.Mathlib.Nat.{not-suc-le-zero}
-use native.Mathlib.Decide.{ℕ-discrete}
-use lib.ListN.{length, getD, set, drop, length-append, length-drop, List·getD-append}
-use lib.Seq.{getD-at, ext-getD}
+use native.Mathlib.Decide.{ℕ-discrete, decLt}
+use borrow.Author.Tests.{lt-ltb, le-ltb}
+use lib.ListN.{length, getD, set, drop, replicate, length-append, length-drop, length-replicate, getD-replicate, List·getD-append}
+use lib.Dec.{ltb}
+use lib.Seq.{getD-at, getD-append-add, getD-drop, ext-getD}
+use Rattle.basics.specs.Choice.{pick}
 use Rattle.basics.specs.Over.{joinTo, rowTo}
 use Rattle.basics.proofs.JoinLaws.{join-eq}
 
@@ -68,3 +71,17 @@ module _ {A : Type 0} where
       (set-after (rowTo i g) (drop i ys) (g i) (omega (arith, length-drop i ys)))
       ∙ (λ j. sym (row-grows g i) j ++ drop-one i ys j)
       ∙ ap (λ (k : ℕ). rowTo k g ++ drop k ys) (sym (add-one i))
+
+  -- the first n of a row of m that holds e
+  pub over-same : (g : ℕ → A) (e : A) (n m : ℕ) → n ≤ m → rowTo n g ++ drop n (replicate m e) ≡ rowTo m (λ k. pick (ltb k n) (g k) e)
+  over-same g e n m l = row-is m _ e _ (over-length g n _ (omega (arith, length-replicate m e)) ∙ length-replicate m e) (λ k h. go k h (decLt k n))
+    where
+      go : (k : ℕ) → k < m → Dec (k < n) → getD (rowTo n g ++ drop n (replicate m e)) k e ≡ pick (ltb k n) (g k) e
+      go k h (yes d) = List·getD-append (rowTo n g) _ e k (omega (arith, row-length n g)) ∙ rw (lt-ltb k n d) (row-at n k g e d)
+      go k h (no d) =
+          let i : k ≡ length (rowTo n g) + (k - n) = omega (arith, row-length n g) in
+          let j : n + (k - n) ≡ k = omega arith in
+          ap (λ (q : ℕ). getD (rowTo n g ++ drop n (replicate m e)) q e) i
+          ∙ getD-append-add (rowTo n g) (drop n (replicate m e)) (k - n) e
+          ∙ getD-drop n (replicate m e) (k - n) e
+          ∙ rw (j, le-ltb k n (omega arith)) (getD-replicate m k e e h)

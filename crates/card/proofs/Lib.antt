@@ -1,0 +1,5 @@
+-- Laws of the archive's reader and writer.
+--   ArchiveLaws   a block of an archive as it is handed on, the table that is filled from them, the blocks that are put, a length of whole blocks
+--   Determined    two answers are equal
+pub mod ArchiveLaws
+pub mod Determined
