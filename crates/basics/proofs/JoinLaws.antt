@@ -3,10 +3,12 @@
 use Prim.Native.Nat.{ℕ, zero, suc, _+_, _*_, _≤_, _<_}
 use mathlib.Core.Path.{_≡_, refl, _∙_}
 use mathlib.Core.List.{List, [], _++_, append-assoc, append-nil}
-use native.Mathlib.Nat.{le-refl}
+use native.Mathlib.Nat.{le-refl, not-suc-le-zero, mul-le-mul-left}
+use native.Mathlib.Decide.{ℕ-discrete}
 use native.Mathlib.Numerals.{add-one}
 use native.Mathlib.Omega.{arith}
-use lib.ListN.{length, length-append}
+use lib.ListN.{length, getD, length-append, List·getD-append}
+use lib.Seq.{getD-append-add}
 use Rattle.basics.specs.Over.{sumTo, joinTo}
 use Rattle.basics.proofs.SumLaws.{sum-more, sum-rises, sum-bound}
 
@@ -44,6 +46,21 @@ module _ {A : Type 0} where
   join-even zero w f each = omega arith
   join-even (suc n) w f each =
       length-append (joinTo n f) (f n) ∙ omega (arith, join-even n w f (λ k l. each k (omega arith)), each n (le-refl (suc n)))
+
+  -- the element j of the part k
+  pub join-at : (n w k j : ℕ) (f : ℕ → List A) (d : A) → ((k : ℕ) → k < n → length (f k) ≡ w) → k < n → j < w → getD (joinTo n f) (w * k + j) d ≡ getD (f k) j d
+  unfolding joinTo
+  join-at zero w k j f d each h l = absurd (not-suc-le-zero h)
+  join-at (suc n) w k j f d each h l = go (ℕ-discrete k n) (λ m. join-at n w k j f d (λ i g. each i (omega arith)) m l)
+    where
+      long : length (joinTo n f) ≡ w * n
+      long = join-even n w f (λ i g. each i (omega arith))
+
+      go : Dec (k ≡ n) → (k < n → getD (joinTo n f) (w * k + j) d ≡ getD (f k) j d) → getD (joinTo n f ++ f n) (w * k + j) d ≡ getD (f k) j d
+      go (yes e) ih = rw (e, ← long) (getD-append-add (joinTo n f) (f n) j d)
+      go (no e) ih =
+          List·getD-append (joinTo n f) (f n) d (w * k + j) (omega (arith, long, mul-le-mul-left {m = k + 1} {n = n} w (omega arith)))
+          ∙ ih (omega arith)
 
   -- what holds of the parts from k on, part by part from the last
   pub join-from : (P : ℕ → List A → Type 0) (n : ℕ) (f : ℕ → List A) → ((k : ℕ) (l : List A) → k < n → P (suc k) l → P k (f k ++ l)) → P n []

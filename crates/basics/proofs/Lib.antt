@@ -1,10 +1,10 @@
 -- Each word's laws, stated once.
 --   ChoiceLaws       stops, passes, and-true, pick-when, within-in, within-low, within-high, within-true, only-below
---   SumLaws          sum-none, sum-more, sum-le, sum-rises, sum-part, sum-bound, sum-eq, sum-add, sum-some, sum-wider
+--   SumLaws          sum-none, sum-more, sum-le, sum-rises, sum-part, sum-bound, sum-eq, sum-one, sum-add, sum-some, sum-wider
 --   MaxLaws          max-more, max-bound, max-le, max-rises, max-wider
 --   AllLaws          all-none, all-more, all-at, all-fails, all-hold
 --   FirstIndexLaws   first-none, first-more, First, first-is
---   JoinLaws         join-none, join-more, join-length, join-room, join-eq, join-bound, join-even, join-from
+--   JoinLaws         join-none, join-more, join-length, join-room, join-eq, join-bound, join-even, join-at, join-from
 --   RowLaws          row-length, row-at, row-is, row-eq; over-length, over-none, over-more, over-same
 --   FillLaws         restAt, backAt, whole-part, rest-length, back-plain, back-length; Filled, filled-none, filled-bytes, filled-part, filled-byte,
 --                    filled-copy, filled-copied; put-none, put-all

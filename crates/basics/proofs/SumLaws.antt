@@ -3,7 +3,7 @@
 use Prim.Native.Nat.{ℕ, zero, suc, _+_, _*_, _≤_, _<_}
 use mathlib.Core.Path.{_≡_, refl, sym, ap₂, _∙_}
 use mathlib.Core.Bool.{_||_}
-use native.Mathlib.Nat.{le-refl, le-trans, zero-add}
+use native.Mathlib.Nat.{le-refl, le-trans, zero-add, not-suc-le-zero}
 use native.Mathlib.Numerals.{add-one}
 use native.Mathlib.Decide.{ℕ-discrete}
 use native.Mathlib.Omega.{arith}
@@ -48,6 +48,16 @@ pub sum-eq : (n : ℕ) (g h : ℕ → ℕ) → ((k : ℕ) → k < n → g k ≡ 
 unfolding sumTo
 sum-eq zero g h eq = refl
 sum-eq (suc n) g h eq = omega (arith, sum-eq n g h (λ k l. eq k (omega arith)), eq n (le-refl (suc n)))
+
+-- they differ in one value only
+pub sum-one : (n k : ℕ) (g h : ℕ → ℕ) → k < n → ((i : ℕ) → (i ≡ k → ⊥) → g i ≡ h i) → sumTo n h + g k ≡ sumTo n g + h k
+unfolding sumTo
+sum-one zero k g h l eq = absurd (not-suc-le-zero l)
+sum-one (suc n) k g h l eq = go (ℕ-discrete k n) (λ m. sum-one n k g h m eq)
+  where
+    go : Dec (k ≡ n) → (k < n → sumTo n h + g k ≡ sumTo n g + h k) → sumTo n h + h n + g k ≡ sumTo n g + g n + h k
+    go (yes e) ih = rw e (omega (arith, sum-eq n g h (λ i m. eq i (λ q. omega arith))))
+    go (no d) ih = omega (arith, ih (omega arith), eq n (λ q. d (sym q)))
 
 pub sum-add : (n : ℕ) (g h : ℕ → ℕ) → sumTo n g + sumTo n h ≡ sumTo n (λ k. g k + h k)
 unfolding sumTo

@@ -49,7 +49,7 @@ zerosAt s at k = allTo k (λ j. eqb (byteAt s (at + j)) 0)
 
 -- 13 is "a wrong check, mark, version or zero"; bytes 510 and 511 equal the check, and do not only complete it: hex 0000 and FFFF are two ways to complete one sum
 unfoldable pub markedBlock : List ℕ → Bool
-markedBlock s = eqb (numberAt s 0 2) 0x5442 && eqb (byteAt s 2) 1 && zerosAt s 6 2 && zerosAt s 180 330
+markedBlock s = eqb (byteAt s 0) 0x54 && eqb (byteAt s 1) 0x42 && eqb (byteAt s 2) 1 && zerosAt s 6 2 && zerosAt s 180 330
 
 unfoldable pub goodBlock : List ℕ → Bool
 goodBlock s = eqb (length s) blockSize && eqb (numberAt s 510 2) (checkOf (take 510 s)) && markedBlock s

@@ -54,7 +54,10 @@ fn zeros(s: &[u8], at: usize, k: usize) -> bool
 pub(crate) fn is_marked(s: &[u8]) -> bool
     ensures { λ r. ⌜ r ≡ markedBlock (now (s .entry)) ⌝ }
 {
-    if two(s, 0) != 0x5442 {
+    if byte(s, 0) != 0x54 {
+        return false;
+    }
+    if byte(s, 1) != 0x42 {
         return false;
     }
     if byte(s, 2) != 1 {

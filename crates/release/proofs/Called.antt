@@ -1,0 +1,209 @@
+-- An archive is refused exactly as it calls for (specs/Refusals.antt).
+-- Assumes nothing.
+use Prim.Native.Nat.{ℕ, _+_, _≤_, _<_}
+use mathlib.Core.Path.{_≡_, refl, sym, ap, _∙_}
+use mathlib.Core.Bool.{Bool, true, false}
+use mathlib.Core.Logic.{_⊎_, inl, inr}
+use mathlib.Core.List.{List}
+use native.Mathlib.Omega.{arith}
+use lib.ListN.{length}
+use borrow.Author.Tests.{le-leb}
+use Rattle.basics.specs.Choice.{within}
+use Rattle.table.specs.declared.Fault.{Fault}
+use Rattle.table.specs.declared.Fault.the-variants.{TooLong, OutOfRange, BadTimes, BadTotals, BadLength, BadBlock, Mismatch}
+use Rattle.table.specs.declared.Refusal.{Refusal}
+use Rattle.table.specs.declared.Checked.{Checked}
+use Rattle.table.specs.declared.Checked.the-variants.{Fine, Refused}
+use Rattle.table.specs.declared.Pair.{Pair}
+use Rattle.table.specs.declared.Task.{Task}
+use Rattle.table.specs.declared.Table.{Table}
+use Rattle.table.specs.Limits.{maxCpus, maxTasks, maxResources}
+use Rattle.table.specs.Faults.{numberOf, Refuses, _then_, unless, firstFault}
+use Rattle.table.specs.At.{taskAt}
+use Rattle.table.specs.Rules.{timesInRange, timesInOrder, timesFault, pairInRange, totalsFit, pairFault, pairFaultOf, pairsFault, taskFault, taskFaultAt, tasksFault, tableFault}
+use Rattle.table.proofs.FirstDecides.{two-decide, many-decide}
+use Rattle.table.proofs.FirstLaws.{first-fine, each-fine}
+use Rattle.table.proofs.RuleLaws.{unless-fine}
+use Rattle.table.proofs.Acceptance.{fine-accepted, accepted-fine}
+use Rattle.block.specs.Block.{goodBlock, headIn}
+use Rattle.card.specs.Archive.{blockAt, blocksIn, isLength, agrees, blockFault, blockFaultAt, blocksFault, tableIn, archiveFault}
+use Rattle.release.specs.Refusals.{Whole, GoodBlock, InPlace, FirstGood, CallsFor, bad-length, bad-block, mismatch, table, RefusedAsCalled}
+use Rattle.release.proofs.GoodLaws.{good-is, is-good, agrees-is, is-agreed}
+use Rattle.release.proofs.Parts.{whole-blocks, whole-is, is-whole, block-good, block-fine, answer-is, fine-kept, kept-fine}
+
+-- ---- one rule
+
+-- the refusal that a check gives, if it gives one
+given : Checked → Refusal
+given Fine = record { fault = TooLong; place = 0 }
+given (Refused r) = r
+
+-- a rule refuses where its test fails, with its own number and place
+rule-is : (test : Bool) (f : Fault) (q k p : ℕ) → Refuses (unless test f q) k p → (test ≡ false) × (numberOf f ≡ k) × (q ≡ p)
+unfolding given
+rule-is true f q k p (r, e, t) = let z : _≡_ {A = ℕ} 0 1 = cc in absurd (omega arith)
+rule-is false f q k p (r, e, t) =
+    let g = ap given e in
+    (refl, ap (λ (x : Refusal). numberOf (x .fault)) g ∙ t .number, ap (λ (x : Refusal). x .place) g ∙ t .place)
+
+is-rule : (test : Bool) (f : Fault) (q : ℕ) → test ≡ false → Refuses (unless test f q) (numberOf f) q
+is-rule test f q e = rw e (_, refl, record { number = refl; place = refl })
+
+-- a test that is a fact, by its failing
+fails : {P : Type 0} (b : Bool) → (P → b ≡ true) → b ≡ false → P → ⊥
+fails b back e p = let f = back p in let z : _≡_ {A = ℕ} 0 1 = cc in omega arith
+
+failing : {P : Type 0} (b : Bool) → (b ≡ true → P) → (P → ⊥) → b ≡ false
+failing true forth n = absurd (n (forth refl))
+failing false forth n = refl
+
+-- ---- a block
+
+module _ (a : List ℕ) (w : Whole a (blocksIn a)) (i : ℕ) (h : i < blocksIn a) (before : FirstGood a (blocksIn a) i) where
+  block-calls : (k p : ℕ) → Refuses (blockFaultAt a i) k p → CallsFor a k p
+  unfolding blockFault
+  block-calls k p x = go (two-decide (unless (goodBlock (blockAt a i)) BadBlock (i + 1)) _ k p .0 x)
+    where
+      test : Bool
+      test = agrees (headIn (blockAt a 0)) (blocksIn a) (i + 1) (headIn (blockAt a i))
+
+      go : Refuses (unless (goodBlock (blockAt a i)) BadBlock (i + 1)) k p
+          ⊎ ((unless (goodBlock (blockAt a i)) BadBlock (i + 1) ≡ Fine) × Refuses (unless test Mismatch (i + 1)) k p) → CallsFor a k p
+      go (inl y) =
+          let r = rule-is (goodBlock (blockAt a i)) BadBlock (i + 1) k p y in
+          rw (← r .1, ← r .2) (bad-block (blocksIn a) i w h before (fails _ (is-good (blockAt a i)) (r .0)))
+      go (inr y) =
+          let r = rule-is test Mismatch (i + 1) k p (y .1) in
+          rw (← r .1, ← r .2) (mismatch (blocksIn a) i w h before (good-is (blockAt a i) (unless-fine _ BadBlock (i + 1) (y .0))) (fails _ (is-agreed a (blocksIn a) i) (r .0)))
+
+pub refused-calls : (a : List ℕ) (k p : ℕ) → Refuses (archiveFault a) k p → CallsFor a k p
+unfolding archiveFault blocksFault
+refused-calls a k p x = go (two-decide (unless (isLength (length a)) BadLength 0) _ k p .0 x)
+  where
+    blocks : Checked
+    blocks = firstFault (blocksIn a) (blockFaultAt a)
+
+    later : Whole a (blocksIn a) → Refuses blocks k p ⊎ ((blocks ≡ Fine) × Refuses (tableFault (tableIn a)) k p) → CallsFor a k p
+    later w (inl y) =
+        let f = many-decide (blocksIn a) (blockFaultAt a) k p .0 y in
+        block-calls a w (f .0) (f .1) (λ j l. block-good a j (f .3 j l)) k p (f .2)
+    later w (inr y) = table (blocksIn a) w (λ j l. block-good a j (each-fine (blocksIn a) (blockFaultAt a) (y .0) j l)) (y .1)
+
+    go : Refuses (unless (isLength (length a)) BadLength 0) k p ⊎ ((unless (isLength (length a)) BadLength 0 ≡ Fine) × Refuses (blocks then tableFault (tableIn a)) k p) → CallsFor a k p
+    go (inl y) =
+        let r = rule-is (isLength (length a)) BadLength 0 k p y in
+        rw (← r .1, ← r .2) (bad-length (λ n. fails _ (is-whole a n) (r .0)))
+    go (inr y) = later (whole-is a (unless-fine _ BadLength 0 (y .0))) (two-decide blocks (tableFault (tableIn a)) k p .0 (y .1))
+
+-- ---- what is called for is given
+
+module _ (a : List ℕ) (w : Whole a (blocksIn a)) where
+  -- after the length: of a block, where those before it are good and in place
+  block-given : (i k p : ℕ) → i < blocksIn a → FirstGood a (blocksIn a) i → Refuses (blockFaultAt a i) k p → Refuses (archiveFault a) k p
+  unfolding archiveFault blocksFault
+  block-given i k p h before x =
+      rw (is-whole a (blocksIn a) w)
+      (two-decide (firstFault (blocksIn a) (blockFaultAt a)) (tableFault (tableIn a)) k p .1
+      (inl (many-decide (blocksIn a) (blockFaultAt a) k p .1 (i, h, x, λ j l. block-fine a j (before j l .0) (before j l .1)))))
+
+  -- and of the table, where all are
+  table-given : (k p : ℕ) → FirstGood a (blocksIn a) (blocksIn a) → Refuses (tableFault (tableIn a)) k p → Refuses (archiveFault a) k p
+  unfolding archiveFault blocksFault
+  table-given k p all x = rw (is-whole a (blocksIn a) w, first-fine (blocksIn a) (blockFaultAt a) (λ j l. block-fine a j (all j l .0) (all j l .1))) x
+
+  bad-given : (i : ℕ) → (GoodBlock (blockAt a i) → ⊥) → Refuses (blockFaultAt a i) 13 (i + 1)
+  unfolding blockFault
+  bad-given i n = two-decide _ _ 13 (i + 1) .1 (inl (is-rule (goodBlock (blockAt a i)) BadBlock (i + 1) (failing _ (good-is (blockAt a i)) n)))
+
+  mismatch-given : (i : ℕ) → GoodBlock (blockAt a i) → (InPlace a (blocksIn a) i → ⊥) → Refuses (blockFaultAt a i) 14 (i + 1)
+  unfolding blockFault
+  mismatch-given i g n = rw (is-good (blockAt a i) g) (is-rule _ Mismatch (i + 1) (failing _ (agrees-is a (blocksIn a) i) n))
+
+pub calls-refused : (a : List ℕ) (k p : ℕ) → CallsFor a k p → Refuses (archiveFault a) k p
+unfolding archiveFault
+calls-refused a _ _ (bad-length n) =
+    two-decide _ _ 12 0 .1 (inl (is-rule (isLength (length a)) BadLength 0 (failing _ (whole-is a) (n (blocksIn a)))))
+calls-refused a _ _ (bad-block n i w h before x) =
+    let e = sym (whole-blocks w) in
+    block-given a (rw e at w) i 13 (i + 1) (rw e at h) (rw e at before) (bad-given a (rw e at w) i x)
+calls-refused a _ _ (mismatch n i w h before g x) =
+    let e = sym (whole-blocks w) in
+    block-given a (rw e at w) i 14 (i + 1) (rw e at h) (rw e at before) (mismatch-given a (rw e at w) i g (rw e at x))
+calls-refused a k p (table n w all x) =
+    let e = sym (whole-blocks w) in
+    table-given a (rw e at w) k p (rw e at all) x
+
+-- ---- neither 8 nor 9
+
+-- what a check refuses with is neither
+Other : Checked → Type 0
+Other c = (k p : ℕ) → Refuses c k p → (k ≡ 8 → ⊥) × (k ≡ 9 → ⊥)
+
+-- and so is a fault
+abbrev Neither : Fault → Type 0
+Neither f = (numberOf f ≡ 8 → ⊥) × (numberOf f ≡ 9 → ⊥)
+
+other-rule : (test : Bool) (f : Fault) (q : ℕ) → Neither f → Other (unless test f q)
+unfolding Other
+other-rule test f q n k p x = let r = rule-is test f q k p x in (λ e. n .0 (r .1 ∙ e), λ e. n .1 (r .1 ∙ e))
+
+other-two : (a b : Checked) → Other a → Other b → Other (a then b)
+unfolding Other
+other-two a b f g k p x = go (two-decide a b k p .0 x)
+  where
+    go : Refuses a k p ⊎ ((a ≡ Fine) × Refuses b k p) → (k ≡ 8 → ⊥) × (k ≡ 9 → ⊥)
+    go (inl y) = f k p y
+    go (inr y) = g k p (y .1)
+
+other-many : (n : ℕ) (f : ℕ → Checked) → ((i : ℕ) → Other (f i)) → Other (firstFault n f)
+unfolding Other
+other-many n f each k p x = let y = many-decide n f k p .0 x in each (y .0) k p (y .2)
+
+-- two rules at one place
+other-rules : (x y : Bool) (f g : Fault) (q : ℕ) → Neither f → Neither g → Other (unless x f q then unless y g q)
+other-rules x y f g q n m = other-two (unless x f q) (unless y g q) (other-rule x f q n) (other-rule y g q m)
+
+-- the rules of a task
+other-times : (place T C D : ℕ) → Other (timesFault place T C D)
+unfolding timesFault
+other-times place T C D = other-rules (timesInRange T C D) (timesInOrder T C D) OutOfRange BadTimes place (λ e. omega arith, λ e. omega arith) (λ e. omega arith, λ e. omega arith)
+
+other-pair : (place : ℕ) (p : Pair) (sum C : ℕ) → Other (pairFault place p sum C)
+unfolding pairFault
+other-pair place p sum C = other-rules (pairInRange p) (totalsFit p sum C) OutOfRange BadTotals place (λ e. omega arith, λ e. omega arith) (λ e. omega arith, λ e. omega arith)
+
+other-task : (place : ℕ) (x : Task) → Other (taskFault place x)
+unfolding taskFault pairsFault
+other-task place x =
+    other-two (timesFault place (x .period) (x .run) (x .deadline)) (firstFault maxResources (pairFaultOf place x)) (other-times place _ _ _)
+    (other-many maxResources (pairFaultOf place x) (λ k. other-pair place _ _ _))
+
+other-table : (t : Table) → 1 ≤ t .n → t .n ≤ maxTasks → Other (tableFault t)
+unfolding tableFault tasksFault
+other-table t l m =
+    rw (le-leb 1 (t .n) l, le-leb (t .n) maxTasks m)
+    (other-two (unless (within 1 maxCpus (t .cpus)) OutOfRange 0) (firstFault (t .n) (taskFaultAt t)) (other-rule (within 1 maxCpus (t .cpus)) OutOfRange 0 (λ e. omega arith, λ e. omega arith))
+    (other-many (t .n) (taskFaultAt t) (λ i. other-task (i + 1) (taskAt t i))))
+
+other-calls : (a : List ℕ) (k p : ℕ) → CallsFor a k p → (k ≡ 8 → ⊥) × (k ≡ 9 → ⊥)
+unfolding tableIn Other
+other-calls a _ _ (bad-length n) = (λ e. omega arith, λ e. omega arith)
+other-calls a _ _ (bad-block n i w h before x) = (λ e. omega arith, λ e. omega arith)
+other-calls a _ _ (mismatch n i w h before g x) = (λ e. omega arith, λ e. omega arith)
+other-calls a k p (table n w all x) =
+    let e = whole-blocks w in
+    other-table (tableIn a) (rw e (w .least)) (rw e (w .most)) k p x
+
+pub refused-as-called : RefusedAsCalled
+refused-as-called =
+    record {
+      refused = λ a k p. (λ x. refused-calls a k p (rw (answer-is a) at x), λ x. rw (answer-is a) (calls-refused a k p x));
+      accepted = λ a. (
+        λ e. let k = fine-kept a (sym (answer-is a) ∙ e) in (blocksIn a, k .whole, k .good, fine-accepted (tableIn a) (k .table)),
+        λ x.
+            let e = sym (whole-blocks (x .1)) in
+            answer-is a ∙ kept-fine a (record { whole = rw e at (x .1); good = rw e at (x .2); table = accepted-fine (tableIn a) (x .3) }),
+      );
+      not-eight = λ a p x. other-calls a 8 p (refused-calls a 8 p (rw (answer-is a) at x)) .0 refl;
+      not-nine = λ a p x. other-calls a 9 p (refused-calls a 9 p (rw (answer-is a) at x)) .1 refl;
+    }
