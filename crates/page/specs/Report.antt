@@ -3,23 +3,20 @@ use Prim.Native.Nat.{ℕ, suc, _+_, _*_}
 use mathlib.Core.List.{List, _++_}
 use Rattle.basics.specs.Over.{joinTo}
 use Rattle.basics.specs.Text.{bytes}
-use Rattle.table.specs.declared.Refusal.{Refusal}
 use Rattle.table.specs.declared.Table.{Table}
 use Rattle.table.specs.declared.Checked.{Checked}
 use Rattle.table.specs.declared.Checked.the-variants.{Fine, Refused}
 use Rattle.table.specs.Limits.{maxTasks}
-use Rattle.table.specs.Faults.{numberOf, _then_}
+use Rattle.table.specs.Faults.{_then_}
 use Rattle.put.specs.Text.{countText}
+use Rattle.refusal.specs.declared.Source.the-variants.{Listing}
+use Rattle.refusal.specs.Refusal.{refusalText}
 use Rattle.theory.specs.declared.Verdict.{Verdict}
 use Rattle.theory.specs.declared.Verdict.the-variants.{Meets, Misses}
 use Rattle.theory.specs.View.{level}
 use Rattle.listing.specs.Read.{readListing}
 use Rattle.theory.specs.Tables.{verdictIn}
 use Rattle.analysis.specs.Answers.{analysisFault}
-
--- "Refused, it prints one line, as `refused 9 line 2`: the number, then the place."
-unfoldable pub refusalText : Refusal → List ℕ
-refusalText r = bytes "refused " ++ (countText (numberOf (r .fault)) ++ (bytes " line " ++ (countText (r .place) ++ bytes "\n")))
 
 -- "`meets` and the bound in microseconds, or `misses` and `-`"
 unfoldable pub verdictText : Verdict → List ℕ
@@ -42,9 +39,10 @@ maxPage = 22 + maxTasks * 28
 abbrev pub taskRow : Table → ℕ → List ℕ
 taskRow t i = rowText (suc i) (verdictIn t (level i))
 
+-- "Refused, it prints one line, as `refused 9 line 2`"
 abbrev pub orRefusal : Checked → List ℕ → List ℕ
 orRefusal Fine text = text
-orRefusal (Refused r) text = refusalText r
+orRefusal (Refused r) text = refusalText Listing r
 
 -- the reading's refusal, or the analysis', or the verdicts
 unfoldable pub reportText : List ℕ → List ℕ

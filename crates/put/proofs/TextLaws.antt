@@ -79,6 +79,9 @@ pub count-length : (n : ℕ) → length (countText n) ≡ width n
 unfolding countText
 count-length n = digits-length (width n) n
 
+pub count-most : (n : ℕ) → length (countText n) ≤ 10
+count-most n = omega (arith, count-length n, width-most n)
+
 pub count-filled : (n : ℕ) {o o₁ : List ℕ} {w : ℕ} → w ≡ width n → o₁ ≡ digitsOf w n ++ drop w o → length o₁ ≡ length o → Filled o o₁ (countText n) w
 unfolding countText
 count-filled n e h k = record { holds = rw (← e) h; long = count-length n ∙ sym e; kept = k }

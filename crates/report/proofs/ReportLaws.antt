@@ -1,5 +1,5 @@
 -- The laws of the report's text.
---     count-most, verdict-most, row-most, record-most, records-most    how long the parts are
+--     verdict-most, row-most, record-most, records-most    how long the parts are
 --     records-rows                             the text from the row of records is the text by the verdicts
 --     table-few                                a table that nothing is said against has at most 32 tasks
 --     report-unread, report-unjudged, report-rows         the report, by the two answers
@@ -17,8 +17,7 @@ use Rattle.table.specs.Limits.{maxTasks}
 use Rattle.table.specs.Rules.{tableFault}
 use Rattle.table.proofs.FirstLaws.{then-fine}
 use Rattle.table.proofs.Acceptance.{fine-accepted}
-use Rattle.put.specs.Text.{countText}
-use Rattle.put.proofs.TextLaws.{count-length, width-most}
+use Rattle.put.proofs.TextLaws.{count-most}
 use Rattle.theory.specs.declared.Verdict.{Verdict}
 use Rattle.theory.specs.declared.Verdict.the-variants.{Meets, Misses}
 use Rattle.table.specs.declared.Reading.{Reading}
@@ -26,14 +25,13 @@ use Rattle.listing.specs.Read.{readListing}
 use Rattle.analysis.specs.declared.Record.{Record}
 use Rattle.analysis.specs.Answers.{analysisFault, recordCount, recordOf, analysed}
 use Rattle.analysis.proofs.RowLaws.{row-record}
-use Rattle.page.specs.Report.{refusalText, verdictText, rowText, pageText, taskRow, reportText}
+use Rattle.refusal.specs.declared.Source.the-variants.{Listing}
+use Rattle.refusal.specs.Refusal.{refusalText}
+use Rattle.page.specs.Report.{verdictText, rowText, pageText, taskRow, reportText}
 use Rattle.page.proofs.Reports.{page-eq, page-most}
 use Rattle.report.specs.Rows.{noRecord, recordRow}
 
 -- ---- how long the parts are
-
-pub count-most : (n : ℕ) → length (countText n) ≤ 10
-count-most n = omega (arith, count-length n, width-most n)
 
 pub verdict-most : (v : Verdict) → length (verdictText v) ≤ 17
 unfolding verdictText
@@ -63,12 +61,12 @@ unfolding analysisFault
 table-few t e g = fine-accepted t (then-fine (tableFault t) _ (sym e ∙ g) .0) .tasks-most
 
 module _ (s : List ℕ) {r : Reading} (e : r ≡ readListing s) where
-  pub report-unread : {f : Refusal} → r .answer ≡ Refused f → reportText s ≡ refusalText f
+  pub report-unread : {f : Refusal} → r .answer ≡ Refused f → reportText s ≡ refusalText Listing f
   unfolding reportText
   report-unread g = rw (← e, g)
 
   module _ (g : r .answer ≡ Fine) {x : Checked} (d : x ≡ analysisFault (r .table) maxTasks) where
-    pub report-unjudged : {f : Refusal} → x ≡ Refused f → reportText s ≡ refusalText f
+    pub report-unjudged : {f : Refusal} → x ≡ Refused f → reportText s ≡ refusalText Listing f
     unfolding reportText
     report-unjudged h = rw (← e, g, ← d, h)
 

@@ -5,13 +5,13 @@ ghost use Prim.Native.Nat.{_≤_};
 ghost use lib.ListN.{length, drop};
 ghost use Rattle.put.specs.Text.{countText};
 ghost use Rattle.table.specs.Limits.{maxTasks};
-ghost use Rattle.page.specs.Report.{maxPage, refusalText, verdictText, rowText, pageText, reportText};
+ghost use Rattle.page.specs.Report.{maxPage, verdictText, rowText, pageText, reportText};
 ghost use Rattle.report.specs.Rows.{recordRow};
 use analysis::Analysis;
 use analysis::Record;
+use refusal::Source;
 use table::Checked;
 use table::Level;
-use table::Refusal;
 use table::Table;
 use theory::Verdict;
 
@@ -32,19 +32,6 @@ fn put_number(out: &mut [u8], n: u32) -> usize
     ensures { λ r. ⌜ (r ≡ length (countText n)) × (now (out .exit) ≡ countText n ++ drop r (now (out .entry))) ⌝ }
 {
     put::put_count(out, n).length()
-}
-
-// The line of a refusal: 64 bytes are room for it, whatever its numbers.
-fn put_refusal(out: &mut [u8], r: Refusal) -> usize
-    requires { ⌜ 64 ≤ length (now out) ⌝ }
-    ensures { λ n. ⌜ (n ≡ length (refusalText r)) × (now (out .exit) ≡ refusalText r ++ drop n (now (out .entry))) ⌝ }
-{
-    let fault = r.fault;
-    let a = put(out, b"refused ");
-    let b = a + put_number(&mut out[a..], fault.number());
-    let c = b + put(&mut out[b..], b" line ");
-    let d = c + put_number(&mut out[c..], r.place);
-    d + put(&mut out[d..], b"\n")
 }
 
 fn put_verdict(out: &mut [u8], v: Verdict) -> usize
@@ -93,7 +80,7 @@ pub(crate) fn report(listing: &[u8], out: &mut [u8]) -> usize
     let r = listing::read(listing);
     let read = r.answer;
     if let Checked::Refused(f) = read {
-        return put_refusal(out, f);
+        return refusal::put_refusal(out, Source::Listing, f).length();
     }
     let t = r.table;
     let n = t.n;
@@ -104,7 +91,7 @@ pub(crate) fn report(listing: &[u8], out: &mut [u8]) -> usize
     let a = analysis::analyse_all(t, [none; Table::MAX_TASKS]);
     let judged = a.answer;
     if let Checked::Refused(f) = judged {
-        return put_refusal(out, f);
+        return refusal::put_refusal(out, Source::Listing, f).length();
     }
     put_rows(out, a, n)
 }

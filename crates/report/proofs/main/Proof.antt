@@ -4,7 +4,7 @@ use Prim.Native.Nat.{_≤_}
 use lib.ListN.{length, take}
 use lib.Seq.{length-take-le}
 use Rattle.page.specs.Report.{reportText}
-use Rattle.report.proofs.OutputLaws.{text-within}
+use Rattle.put.proofs.OutputLaws.{text-within}
 use borrow.Author.Needs.{needs}
 use Rattle.report.proofs.main.Statement.{statement}
 use Rattle.report.proofs.main.Tie as tie

@@ -1,5 +1,5 @@
 -- `report::text::put` meets its contract: the bytes fit, so all of them are written. Assumes nothing.
-use Rattle.report.proofs.OutputLaws.{written-all}
+use Rattle.put.proofs.OutputLaws.{written-all}
 use borrow.Author.Needs.{needs}
 use Rattle.report.proofs.text.put.Statement.{statement}
 use Rattle.report.proofs.text.put.Tie as tie

@@ -1,6 +1,6 @@
 -- `report::text::put_number` meets its contract: a number has at most ten digits, so it fits. Assumes nothing.
-use Rattle.report.proofs.ReportLaws.{count-most}
-use Rattle.report.proofs.OutputLaws.{written-all}
+use Rattle.put.proofs.TextLaws.{count-most}
+use Rattle.put.proofs.OutputLaws.{written-all}
 use native.Mathlib.Omega.{arith}
 use Rattle.put.specs.Text.{countText}
 use borrow.Author.Needs.{needs}

@@ -4,8 +4,9 @@ use native.Mathlib.Omega.{arith}
 use Rattle.basics.specs.Text.{bytes}
 use Rattle.put.specs.Text.{countText}
 use Rattle.page.specs.Report.{verdictText, rowText}
-use Rattle.report.proofs.OutputLaws.{Upto, upto-first, upto-more, upto-in, upto-room, upto-done}
-use Rattle.report.proofs.ReportLaws.{count-most, verdict-most}
+use Rattle.put.proofs.OutputLaws.{Upto, upto-first, upto-more, upto-in, upto-room, upto-done}
+use Rattle.put.proofs.TextLaws.{count-most}
+use Rattle.report.proofs.ReportLaws.{verdict-most}
 use borrow.Author.Needs.{needs}
 use Rattle.report.proofs.text.put_row.Statement.{statement}
 use Rattle.report.proofs.text.put_row.Tie as tie

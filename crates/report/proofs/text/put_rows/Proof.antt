@@ -9,7 +9,7 @@ use Rattle.basics.proofs.FillLaws.{Filled}
 use Rattle.page.specs.Report.{pageText}
 use Rattle.page.proofs.Reports.{page-none, page-more}
 use Rattle.report.specs.Rows.{recordRow}
-use Rattle.report.proofs.OutputLaws.{filled-text, filled-done, filled-again, filled-over, Upto, upto-of, upto-more, upto-in, upto-room}
+use Rattle.put.proofs.OutputLaws.{filled-text, filled-done, filled-again, filled-over, Upto, upto-of, upto-more, upto-in, upto-room}
 use Rattle.report.proofs.ReportLaws.{record-most, records-most}
 use Rattle.report.proofs.text.put_rows.Statement.{statement}
 use Rattle.report.proofs.text.put_rows.Tie as tie

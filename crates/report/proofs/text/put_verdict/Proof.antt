@@ -4,8 +4,8 @@ use native.Mathlib.Omega.{arith}
 use Rattle.basics.specs.Text.{bytes}
 use Rattle.put.specs.Text.{countText}
 use Rattle.page.specs.Report.{verdictText}
-use Rattle.report.proofs.OutputLaws.{Upto, upto-first, upto-more, upto-done}
-use Rattle.report.proofs.ReportLaws.{count-most}
+use Rattle.put.proofs.OutputLaws.{Upto, upto-first, upto-more, upto-done}
+use Rattle.put.proofs.TextLaws.{count-most}
 use borrow.Author.Needs.{needs}
 use Rattle.report.proofs.text.put_verdict.Statement.{statement}
 use Rattle.report.proofs.text.put_verdict.Tie as tie

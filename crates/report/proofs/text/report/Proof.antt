@@ -1,6 +1,10 @@
 -- `report::text::report` meets its contract: by the reading, and by what is said against its table, the report is a refusal or the rows. Assumes nothing.
 use mathlib.Core.Path.{refl}
 use native.Mathlib.Omega.{arith}
+use Rattle.put.proofs.OutputLaws.{written-all}
+use Rattle.refusal.specs.declared.Source.the-variants.{Listing}
+use Rattle.refusal.specs.Refusal.{refusalText}
+use Rattle.refusal.proofs.LineLaws.{refusal-most}
 use Rattle.report.proofs.ReportLaws.{table-few, report-unread, report-unjudged, report-rows}
 use borrow.Author.Needs.{needs}
 use Rattle.report.proofs.text.report.Statement.{statement}
@@ -8,21 +12,24 @@ use Rattle.report.proofs.text.report.Tie as tie
 
 returns : tie.Need-returns
 returns c =
-    let p = c .before .before in
+    let p = c .before .before .before in
     let g = p .before .before .before in
     let r = g .before .before in
-    rw (report-unread (r .before .before .before .args .listing .now) (r .read .ensures) (g .read2 .given .1)) (p .put-refusal .ensures)
+    let a = r .before .before .before .args in
+    rw (report-unread (a .listing .now) (r .read .ensures) (g .read2 .given .1))
+    (written-all (refusalText Listing (g .read2 .given .0 .0)) (a .out .now) (omega (arith, refusal-most Listing (g .read2 .given .0 .0))) (c .length .ensures) (p .put-refusal .ensures .0) (p .put-refusal .ensures .1))
 
 returns-2 : tie.Need-returns-2
 returns-2 c =
-    let p = c .before .before in
+    let p = c .before .before .before in
     let j = p .before .before .before in
     let a = j .before .before in
     let g = a .before .before in
     let r = g .before .before in
+    let s = r .before .before .before .args in
     rw
-    (report-unjudged (r .before .before .before .args .listing .now) (r .read .ensures) (g .enum-told .given .1) (a .analyse-all .ensures .0) (j .judged .given .1))
-    (p .put-refusal2 .ensures)
+    (report-unjudged (s .listing .now) (r .read .ensures) (g .enum-told .given .1) (a .analyse-all .ensures .0) (j .judged .given .1))
+    (written-all (refusalText Listing (j .judged .given .0 .0)) (s .out .now) (omega (arith, refusal-most Listing (j .judged .given .0 .0))) (c .length2 .ensures) (p .put-refusal2 .ensures .0) (p .put-refusal2 .ensures .1))
 
 put-rows-requires : tie.Need-put-rows-requires
 put-rows-requires c κs =
@@ -48,11 +55,13 @@ report-spec =
     (λ c κs. search needs)
     (λ c. search needs)
     (λ c κs. search needs)
+    (λ c κs. search needs)
     (λ c. search needs)
     returns
     (λ c. search needs)
     (λ c κs. search needs)
     (λ c. search needs)
+    (λ c κs. search needs)
     (λ c κs. search needs)
     (λ c. search needs)
     returns-2

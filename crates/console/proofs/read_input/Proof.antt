@@ -1,12 +1,12 @@
--- `report::read_input` is safe and returns, and what it counts is in the buffer. The invariant: `done` is within the buffer, which is as long as it was. The measure is what is left of it. Assumes what libc declares of `read` and `write`.
+-- `console::read_input` is safe and returns, and what it counts is in the buffer. The invariant: `done` is within the buffer, which is as long as it was. The measure is what is left of it. Assumes what libc declares of `read` and `write`.
 use Prim.Native.Nat.{ℕ, _-_, _≤_}
 use mathlib.Core.Path.{_≡_}
 use native.Mathlib.Omega.{arith}
 use borrow.Author.Needs.{needs}
 use lib.ListN.{length}
-use Rattle.report.specs.declared.Input.the-variants.{Got, Failed}
-use Rattle.report.proofs.read_input.Statement.{statement}
-use Rattle.report.proofs.read_input.Tie as tie
+use Rattle.console.specs.declared.Input.the-variants.{Got, Failed}
+use Rattle.console.proofs.read_input.Statement.{statement}
+use Rattle.console.proofs.read_input.Tie as tie
 
 abbrev Inv-loop : tie.InvT-loop
 Inv-loop buf₀ done₀ buf done = (done ≤ length buf) × (length buf ≡ length buf₀)

@@ -1,0 +1,3 @@
+-- The line that tells a refusal.
+--   Refusal   its text
+pub mod Refusal
