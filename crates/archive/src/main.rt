@@ -1,0 +1,34 @@
+// Reads a listing from standard input and writes the archive of its table; refused, nothing but the refusal, to standard error, so that no half archive can be mistaken for one.
+use block::SIZE;
+use console::Input;
+use libc::STDERR_FILENO;
+use libc::STDOUT_FILENO;
+use refusal::Source;
+use table::Table;
+use table::Written;
+
+mod bytes;
+
+// The longest archive.
+const MOST: usize = Table::MAX_TASKS * SIZE;
+
+fn main() {
+    // one byte past the limit, to know that a listing is too long
+    let mut space = [0u8; Table::MAX_LISTING + 1];
+    let Input::Got(n) = console::read_input(&mut space) else {
+        io::write_all(STDERR_FILENO, b"archive: the input could not be read\n");
+        return;
+    };
+    let mut out = [0u8; MOST];
+    match bytes::archive(&space[..n], &mut out) {
+        Written::Wrote(length) => {
+            if !io::write_all(STDOUT_FILENO, &out[..length]) {
+                io::write_all(
+                    STDERR_FILENO,
+                    b"archive: the archive could not be written\n",
+                );
+            }
+        }
+        Written::NotWritten(r) => console::say_refusal(Source::Listing, r),
+    }
+}
