@@ -1,4 +1,4 @@
-// A test program: hands a raw table of any numbers to one entry point of the library, or a listing to the reader, and prints the answer and all that was lent.
+// A test program: hands a raw table of any numbers to one entry point of the library, or a listing or an archive to its reader, and prints the answer and all that was lent.
 // docs/PROBE.md describes its input. Its contracts say nothing: it is for comparing, and what it calls is proved elsewhere.
 ghost use Prim.Native.Nat.{_≤_};
 ghost use lib.ListN.{length};
@@ -9,21 +9,23 @@ use libc::STDOUT_FILENO;
 use table::Checked;
 use table::Level;
 use table::Pair;
+use table::Reading;
 use table::Refusal;
 use table::Table;
 use table::Task;
 use table::Written;
 use theory::Verdict;
 
-// The words of a task, and the words and bytes of a request: an entry point, its argument, m, n in two words, and 32 tasks.
+// The words of a task, and of a request that holds a table: an entry point, its argument, m, n in two words, and 32 tasks.
 const TASK: usize = 3 + 3 * Table::MAX_RESOURCES;
 
 const WORDS: usize = 5 + Table::MAX_TASKS * TASK;
 
-const BYTES: usize = 4 * WORDS;
+// Where a listing or an archive begins in a request: after the entry point and its length.
+const INPUT: usize = 8;
 
-// Where a listing begins in a request: after the entry point and its length.
-const LISTING: usize = 8;
+// The bytes of a request.
+const BYTES: usize = INPUT + 20_000;
 
 // The records of the row that is lent, or of which the front is lent.
 const ROWS: usize = 40;
@@ -185,11 +187,8 @@ fn bound(t: Table, task: u32) {
     }
 }
 
-// The front of an output, lent to the writer; then the answer, and all of the output.
-fn write_into(t: Table, out: &mut [u8], room: usize)
-    requires { ⌜ room ≤ length (now out) ⌝ }
-{
-    match writing::write(t, &mut out[..room]) {
+fn say_written(w: Written) {
+    match w {
         Written::Wrote(k) => {
             say(b"wrote ");
             io::print_decimal(STDOUT_FILENO, k as u64);
@@ -197,10 +196,24 @@ fn write_into(t: Table, out: &mut [u8], room: usize)
         }
         Written::NotWritten(r) => say_refusal(r),
     }
+}
+
+// The front of an output, lent to a writer; then the answer, and all of the output.
+fn write_into(t: Table, out: &mut [u8], room: usize)
+    requires { ⌜ room ≤ length (now out) ⌝ }
+{
+    say_written(writing::write(t, &mut out[..room]));
     say(out);
 }
 
-// Entry point 4: `write`, with an output of so many bytes.
+fn archive_into(t: Table, out: &mut [u8], room: usize)
+    requires { ⌜ room ≤ length (now out) ⌝ }
+{
+    say_written(card::write(t, &mut out[..room]));
+    say(out);
+}
+
+// Entry point 4: `writing::write`, with an output of so many bytes.
 fn write(t: Table, room: u32) {
     if OUTPUT < room as usize {
         say(b"bad output\n");
@@ -210,16 +223,39 @@ fn write(t: Table, room: u32) {
     write_into(t, &mut out, room as usize);
 }
 
-// Entry point 5: `read`, of a listing of so many bytes; then `write` of the table that it gives.
-fn read(s: &[u8], length: u32) {
-    if s.len() < LISTING + length as usize {
-        say(b"bad listing\n");
+// Entry point 6: `card::write`, with an output of so many bytes.
+fn archive(t: Table, room: u32) {
+    if OUTPUT < room as usize {
+        say(b"bad output\n");
         return;
     }
-    let r = listing::read(&s[LISTING..LISTING + length as usize]);
+    let mut out = [b'#'; OUTPUT];
+    archive_into(t, &mut out, room as usize);
+}
+
+// What a reader answers; then `writing::write` of the table that it gives.
+fn say_reading(r: Reading) {
     let answer = r.answer;
     say_checked(answer);
     write(r.table, OUTPUT as u32);
+}
+
+// Entry point 5: `listing::read`, of a listing of so many bytes.
+fn read(s: &[u8], length: u32) {
+    if s.len() < INPUT + length as usize {
+        say(b"bad listing\n");
+        return;
+    }
+    say_reading(listing::read(&s[INPUT..INPUT + length as usize]));
+}
+
+// Entry point 7: `card::read`, of an archive of so many bytes.
+fn unarchive(s: &[u8], length: u32) {
+    if s.len() < INPUT + length as usize {
+        say(b"bad archive\n");
+        return;
+    }
+    say_reading(card::read(&s[INPUT..INPUT + length as usize]));
 }
 
 fn main() {
@@ -237,6 +273,8 @@ fn main() {
         3 => analyse(t, argument),
         4 => write(t, argument),
         5 => read(&space, argument),
+        6 => archive(t, argument),
+        7 => unarchive(&space, argument),
         _ => say(b"bad request\n"),
     }
 }

@@ -1,5 +1,6 @@
 -- Demand 1 holds.
 -- Assumes nothing.
+use Prim.Native.Nat.{_*_}
 use mathlib.Core.Path.{refl, sym}
 use base.Logic.{id⊢}
 use lib.ListN.{length}
@@ -21,6 +22,12 @@ use Rattle.meaning.proofs.Refused.{listing-empty}
 use Rattle.meaning.proofs.ListingRefusals.{refused-as-called}
 use Rattle.rounds.proofs.Determined.{verdict-of-determined}
 use Rattle.shares.proofs.Determined.{shares-of-determined}
+use Rattle.refusal.proofs.Determined.{put-refusal-determined}
+use Rattle.checksum.proofs.Determined.{check-of-determined}
+use Rattle.block.proofs.Determined.{put-block-determined, is-good-determined, head-of-determined, task-of-determined}
+use Rattle.card.specs.Archive.{archivingFault, archived}
+use Rattle.card.proofs.Determined.{read-determined as card-read-determined, write-determined as card-write-determined}
+use Rattle.release.proofs.Called.{archive-empty, refused-as-called as archive-refused}
 use Rattle.analysis.specs.Answers.{boundFault, analysisFault, recordCount, analysed}
 use Rattle.analysis.proofs.Determined.{bound-determined, analyse-all-determined, analyse-determined}
 use Rattle.promises.specs.Demand1.{Entries, Determines, Keeps, FirstDecides, Demand1}
@@ -33,6 +40,9 @@ entries =
       read = λ κs a r x p. p;
       write-answers = λ κs a r x p. p .0;
       write-leaves = λ κs a r x p. p .1;
+      card-read = λ κs a r x p. p;
+      card-write-answers = λ κs a r x p. p .0;
+      card-write-leaves = λ κs a r x p. p .1;
       bound = λ a r x p. p;
       analyse = λ 𝓤 H A mem run κs a r x. id⊢ 𝓤 _;
       analyse-all = λ a r x p. λ j. record { answer = p .0 j; rows = p .1 j };
@@ -61,6 +71,14 @@ determines =
       line-of = line-of-determined;
       read = read-determined;
       write = write-determined;
+      put-refusal = put-refusal-determined;
+      check-of = check-of-determined;
+      put-block = put-block-determined;
+      is-good = is-good-determined;
+      head-of = head-of-determined;
+      task-of = task-of-determined;
+      card-read = card-read-determined;
+      card-write = card-write-determined;
       bound = bound-determined;
       verdict-of = verdict-of-determined;
       shares-of = shares-of-determined;
@@ -71,23 +89,26 @@ determines =
 -- ---- a refusal changes nothing
 
 keeps : Keeps
-unfolding analysed recordCount joinTo written
+unfolding analysed recordCount joinTo written archived
 keeps =
     record {
       row = λ t row r e. rw e;
       output = λ t out r e. rw e;
       field = λ text out e. short-is text out (sym e) refl .1;
       table = listing-empty;
+      archive = λ t out r e. rw e;
+      card = archive-empty;
     }
 
 -- ---- the first rule that fails decides
 
 first-decides : FirstDecides
-unfolding boundFault analysisFault writeFault
+unfolding boundFault analysisFault writeFault archivingFault
 first-decides =
     record {
       numbers = one-number;
       listing = refused-as-called;
+      archive = archive-refused;
       rule = rule-decides;
       two = two-decide;
       many = many-decide;
@@ -95,6 +116,7 @@ first-decides =
       ten = λ t i e. rw e (rule-by _ UnknownTask (within-fails (t .n) (i .0)));
       eleven-row = λ t room e. rw e (rule-by _ TooShort (above-fails (t .n) room));
       eleven-output = λ t room e. rw e (rule-by _ TooShort (above-fails (length (textOf t)) room));
+      eleven-archive = λ t room e. rw e (rule-by _ TooShort (above-fails (512 * t .n) room));
     }
 
 pub demand1 : Demand1

@@ -1,6 +1,6 @@
 -- Demand 1: every input gets an answer that the contract determines; a refusal is given exactly when its rule is the first that fails,
 -- and then everything lent holds what it held. (That each function answers at all, and does nothing undefined, is what the checker proves of every function.)
-use Prim.Native.Nat.{ℕ, _<_}
+use Prim.Native.Nat.{ℕ, _*_, _<_}
 use mathlib.Core.Path.{_≡_}
 use mathlib.Core.Bool.{Bool, false}
 use mathlib.Core.List.{List}
@@ -35,6 +35,9 @@ use Rattle.put.specs.Text.{putAnswer}
 use Rattle.listing.specs.Read.{readListing}
 use Rattle.meaning.specs.Refusals.{RefusedAsCalled}
 use Rattle.writing.specs.Write.{textOf, writeFault, writeAnswer, written}
+use Rattle.block.specs.Block.{blockSize}
+use Rattle.card.specs.Archive.{archivingFault, archiveAnswer, archived, readArchive}
+use Rattle.release.specs.Refusals.{RefusedAsCalled as CardRefusedAsCalled}
 use Rattle.analysis.specs.declared.Record.{Record}
 use Rattle.analysis.specs.Answers.{boundFault, boundOf, analysisFault, analysed, FillsRow}
 use Rattle.table.proofs.Fault.number.Reads as number
@@ -57,6 +60,14 @@ use Rattle.put.proofs.put_time.Reads as put-time
 use Rattle.line.proofs.line_of.Reads as line-of
 use Rattle.listing.proofs.read.Reads as read
 use Rattle.writing.proofs.write.Reads as write
+use Rattle.refusal.proofs.put_refusal.Reads as put-refusal
+use Rattle.checksum.proofs.check_of.Reads as check-of
+use Rattle.block.proofs.put_block.Reads as put-block
+use Rattle.block.proofs.is_good.Reads as is-good
+use Rattle.block.proofs.head_of.Reads as head-of
+use Rattle.block.proofs.task_of.Reads as task-of
+use Rattle.card.proofs.write.Reads as card-write
+use Rattle.card.proofs.read.Reads as card-read
 use Rattle.rounds.proofs.verdict_of.Reads as verdict-of
 use Rattle.shares.proofs.shares_of.Reads as shares-of
 use Rattle.analysis.proofs.analyse as analyse
@@ -72,6 +83,9 @@ pub record Entries : Type 2 where
   pub read : (κs : Lfts 1) → Answers (read.Learnt κs) (λ a. readListing (a .0 .now))
   pub write-answers : (κs : Lfts 1) → Answers (write.Learnt κs) (λ a. writeAnswer (a .0) (length (a .1 .0 .now)))
   pub write-leaves : (κs : Lfts 1) → Leaves (λ x. x .1 .0 .now) (write.Learnt κs) (λ a. written (a .0) (a .1 .0 .now))
+  pub card-read : (κs : Lfts 1) → Answers (card-read.Learnt κs) (λ a. readArchive (a .0 .now))
+  pub card-write-answers : (κs : Lfts 1) → Answers (card-write.Learnt κs) (λ a. archiveAnswer (a .0) (length (a .1 .0 .now)))
+  pub card-write-leaves : (κs : Lfts 1) → Leaves (λ x. x .1 .0 .now) (card-write.Learnt κs) (λ a. archived (a .0) (a .1 .0 .now))
   pub bound : Answers (bound.Learnt tt) (λ a. boundOf (a .0) (a .1 .0))
   -- `analyse` is walked by hand, and the checker makes no `Learnt` of it: this is its `ensures` itself, as the checker has it, at any arguments a, answer r
   -- and arguments at exit x; it says that the row is filled
@@ -103,6 +117,14 @@ pub record Determines : Type 0 where
   pub line-of : (κs : Lfts 1) → Determined (line-of.Learnt κs)
   pub read : (κs : Lfts 1) → Determined (read.Learnt κs)
   pub write : (κs : Lfts 1) → DeterminedWith (λ x. x .1 .0 .now) (write.Learnt κs)
+  pub put-refusal : (κs : Lfts 1) → DeterminedWith (λ x. x .0 .now) (put-refusal.Learnt κs)
+  pub check-of : (κs : Lfts 1) → Determined (check-of.Learnt κs)
+  pub put-block : (κs : Lfts 1) → DeterminedWith (λ x. x .0 .now) (put-block.Learnt κs)
+  pub is-good : (κs : Lfts 1) → Determined (is-good.Learnt κs)
+  pub head-of : (κs : Lfts 1) → Determined (head-of.Learnt κs)
+  pub task-of : (κs : Lfts 1) → Determined (task-of.Learnt κs)
+  pub card-read : (κs : Lfts 1) → Determined (card-read.Learnt κs)
+  pub card-write : (κs : Lfts 1) → DeterminedWith (λ x. x .1 .0 .now) (card-write.Learnt κs)
   pub bound : Determined (bound.Learnt tt)
   pub verdict-of : Determined (verdict-of.Learnt tt)
   pub shares-of : Determined (shares-of.Learnt tt)
@@ -118,6 +140,9 @@ pub record Keeps : Type 0 where
   pub field : (text out : List ℕ) → putAnswer text out ≡ Short → putInto text out ≡ out
   -- "a refused reading gives no table"
   pub table : (s : List ℕ) (r : Refusal) → readListing s .answer ≡ Refused r → readListing s .table ≡ emptyTable
+  -- and of an archive the same
+  pub archive : (t : Table) (out : List ℕ) (r : Refusal) → archivingFault t (length out) ≡ Refused r → archived t out ≡ out
+  pub card : (a : List ℕ) (r : Refusal) → readArchive a .answer ≡ Refused r → readArchive a .table ≡ emptyTable
 
 -- ---- a refusal is given, with its number and place, exactly when its rule is the first that fails (`Refuses c k p`: the check c refuses with the number k, at the place p)
 
@@ -126,6 +151,8 @@ pub record FirstDecides : Type 0 where
   pub numbers : (a b : Fault) → numberOf a ≡ numberOf b → a ≡ b
   -- a listing, and a line of it
   pub listing : RefusedAsCalled
+  -- an archive: 12, 13 and 14, and then the table's own
+  pub archive : CardRefusedAsCalled
   -- of a table: one rule, two rules after each other, and the rules of n things
   pub rule : (test : Bool) (fault : Fault) (place : ℕ) → Refuses (unless test fault place) (numberOf fault) place exactly-if (test ≡ false)
   pub two : (a b : Checked) (k p : ℕ) → Refuses (a then b) k p exactly-if (Refuses a k p ⊎ ((a ≡ Fine) × Refuses b k p))
@@ -133,10 +160,11 @@ pub record FirstDecides : Type 0 where
       → Refuses (firstFault n f) k p exactly-if ((i : ℕ) × (i < n) × Refuses (f i) k p × ((j : ℕ) → j < i → f j ≡ Fine))
   -- a table is accepted exactly if it holds the paper's bounds
   pub fine : (t : Table) → (tableFault t ≡ Fine) exactly-if Accepted t
-  -- after the table's own: 10, and 11 for a row and for an output
+  -- after the table's own: 10, and 11 for a row and for an output, be it of a listing or of an archive
   pub ten : (t : Table) (i : Level) → tableFault t ≡ Fine → Refuses (boundFault t i) 10 0 exactly-if ((i .0 ≡ 0) ⊎ (t .n < i .0))
   pub eleven-row : (t : Table) (room : ℕ) → tableFault t ≡ Fine → Refuses (analysisFault t room) 11 0 exactly-if (room < t .n)
   pub eleven-output : (t : Table) (room : ℕ) → tableFault t ≡ Fine → Refuses (writeFault t room) 11 0 exactly-if (room < length (textOf t))
+  pub eleven-archive : (t : Table) (room : ℕ) → tableFault t ≡ Fine → Refuses (archivingFault t room) 11 0 exactly-if (room < blockSize * t .n)
 
 pub record Demand1 : Type 2 where
   pub entries : Entries

@@ -3,6 +3,7 @@
 --   Demand2   the bound is the right one, a table holds what its listing states, which is one thing only, and what is written reads back
 --   Demand3   a table made harder never gives a smaller bound
 --   Decimals  request 1/12: which fields are times of up to six decimals, and on which side of what was typed each figure lies
+--   Archives  request 2/12: writing and reading an archive undo each other, one archive for one table, and a changed byte is noticed
 --   Points    the paper's points marked P
 --   Words     what these are made of
 pub mod Words
@@ -10,4 +11,5 @@ pub mod Demand1
 pub mod Demand2
 pub mod Demand3
 pub mod Decimals
+pub mod Archives
 pub mod Points

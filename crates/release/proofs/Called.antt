@@ -19,6 +19,8 @@ use Rattle.table.specs.declared.Task.{Task}
 use Rattle.table.specs.declared.Table.{Table}
 use Rattle.table.specs.Limits.{maxCpus, maxTasks, maxResources}
 use Rattle.table.specs.Faults.{numberOf, Refuses, _then_, unless, firstFault}
+use Rattle.table.specs.Empty.{emptyTable}
+use Rattle.table.specs.Answers.{orTable}
 use Rattle.table.specs.At.{taskAt}
 use Rattle.table.specs.Rules.{timesInRange, timesInOrder, timesFault, pairInRange, totalsFit, pairFault, pairFaultOf, pairsFault, taskFault, taskFaultAt, tasksFault, tableFault}
 use Rattle.table.proofs.FirstDecides.{two-decide, many-decide}
@@ -26,7 +28,7 @@ use Rattle.table.proofs.FirstLaws.{first-fine, each-fine}
 use Rattle.table.proofs.RuleLaws.{unless-fine}
 use Rattle.table.proofs.Acceptance.{fine-accepted, accepted-fine}
 use Rattle.block.specs.Block.{goodBlock, headIn}
-use Rattle.card.specs.Archive.{blockAt, blocksIn, isLength, agrees, blockFault, blockFaultAt, blocksFault, tableIn, archiveFault}
+use Rattle.card.specs.Archive.{blockAt, blocksIn, isLength, agrees, blockFault, blockFaultAt, blocksFault, tableIn, archiveFault, readArchive}
 use Rattle.release.specs.Refusals.{Whole, GoodBlock, InPlace, FirstGood, CallsFor, bad-length, bad-block, mismatch, table, RefusedAsCalled}
 use Rattle.release.proofs.GoodLaws.{good-is, is-good, agrees-is, is-agreed}
 use Rattle.release.proofs.Parts.{whole-blocks, whole-is, is-whole, block-good, block-fine, answer-is, fine-kept, kept-fine}
@@ -193,6 +195,15 @@ other-calls a _ _ (mismatch n i w h before g x) = (λ e. omega arith, λ e. omeg
 other-calls a k p (table n w all x) =
     let e = whole-blocks w in
     other-table (tableIn a) (rw e (w .least)) (rw e (w .most)) k p x
+
+-- a refused reading gives no table
+pub archive-empty : (a : List ℕ) (r : Refusal) → readArchive a .answer ≡ Refused r → readArchive a .table ≡ emptyTable
+unfolding readArchive
+archive-empty a r = go (archiveFault a)
+  where
+    go : (c : Checked) → orTable c (tableIn a) .answer ≡ Refused r → orTable c (tableIn a) .table ≡ emptyTable
+    go Fine e = let z : _≡_ {A = ℕ} 0 1 = cc in absurd (omega arith)
+    go (Refused x) e = refl
 
 pub refused-as-called : RefusedAsCalled
 refused-as-called =

@@ -6,7 +6,7 @@
 --   Undo         reads-back, writes-again, same-archive, one-archive, passes-check
 --   Changed      one byte changed changes the check
 --   Noticed      an accepted archive with one byte changed is refused
---   Called       an archive is refused exactly as it calls for
+--   Called       an archive is refused exactly as it calls for, and then gives no table
 --   CasesHold    the cases, computed
 pub mod NumberBack
 pub mod GoodLaws

@@ -1,0 +1,37 @@
+-- Request 2/12 holds.
+-- Assumes nothing.
+use Prim.Native.Nat.{ℕ}
+use mathlib.Core.Path.{_≡_, sym, ap, _∙_}
+use mathlib.Core.List.{List}
+use Rattle.table.specs.declared.Table.{Table}
+use Rattle.table.specs.declared.Reading.{Reading}
+use Rattle.table.specs.Answers.{accepted}
+use Rattle.table.specs.Cleared.{cleared}
+use Rattle.listing.specs.Read.{readListing}
+use Rattle.meaning.proofs.Meaning.{passes-check as listing-passes}
+use Rattle.meaning.proofs.Back.{reads-back as text-back, rewrites}
+use Rattle.card.specs.Archive.{readArchive}
+use Rattle.release.specs.Undo.{Bytes}
+use Rattle.release.proofs.Undo.{reads-back, writes-again, same-archive, one-archive, passes-check}
+use Rattle.release.proofs.Noticed.{noticed}
+use Rattle.promises.specs.Archives.{Archives}
+
+-- the table of a listing, and that of an archive, has zeros past the nth task already
+listing-clear : (s : List ℕ) (t : Table) → readListing s ≡ accepted t → cleared t ≡ t
+listing-clear s t e = ap (λ (r : Reading). r .table) (sym (text-back t (listing-passes s t e)) ∙ rewrites s t e)
+
+card-clear : (a : List ℕ) (t : Table) → Bytes a → readArchive a ≡ accepted t → cleared t ≡ t
+card-clear a t bytes e = ap (λ (r : Reading). r .table) (sym (reads-back t (passes-check a t e)) ∙ ap readArchive (writes-again a t bytes e) ∙ e)
+
+pub archives-hold : Archives
+archives-hold =
+    record {
+      reads-back = reads-back;
+      writes-again = writes-again;
+      same-archive = same-archive;
+      one-archive = one-archive;
+      passes-check = passes-check;
+      noticed = noticed;
+      from-listing = λ s t e. reads-back t (listing-passes s t e) ∙ ap accepted (listing-clear s t e);
+      from-card = λ a t bytes e. (text-back t (passes-check a t e) ∙ ap accepted (card-clear a t bytes e), writes-again a t bytes e);
+    }

@@ -1,0 +1,27 @@
+-- Request 2/12 of document 02: the archive on the release card. When an archive is refused, and with what, is in demand 1.
+use mathlib.Core.Path.{_≡_}
+use mathlib.Core.List.{List}
+use Prim.Native.Nat.{ℕ}
+use Rattle.table.specs.declared.Table.{Table}
+use Rattle.table.specs.Answers.{accepted}
+use Rattle.listing.specs.Read.{readListing}
+use Rattle.writing.specs.Write.{textOf}
+use Rattle.card.specs.Archive.{archiveOf, readArchive}
+use Rattle.release.specs.Undo.{Bytes, ReadsBack, WritesAgain, SameArchive, OneArchive, PassesCheck, Noticed}
+
+pub record Archives : Type 0 where
+  -- "Writer and reader are both wanted, each undoing the other": the archive of an accepted table is read as that table, with zeros past the nth task
+  pub reads-back : ReadsBack
+  -- and an accepted archive, its table written again, is the same bytes
+  pub writes-again : WritesAgain
+  -- "one archive for one table"
+  pub same-archive : SameArchive
+  pub one-archive : OneArchive
+  -- what a reading accepts, the check of a table accepts
+  pub passes-check : PassesCheck
+  -- one changed byte never goes unnoticed
+  pub noticed : Noticed
+  -- from a listing to the card and back: the archive of an accepted listing's table is read as that very table,
+  pub from-listing : (s : List ℕ) (t : Table) → readListing s ≡ accepted t → readArchive (archiveOf t) ≡ accepted t
+  -- and the listing of an accepted archive's table is read as that very table, whose archive is the same bytes
+  pub from-card : (a : List ℕ) (t : Table) → Bytes a → readArchive a ≡ accepted t → (readListing (textOf t) ≡ accepted t) × (archiveOf t ≡ a)
