@@ -5,6 +5,7 @@ use std::fmt;
 use std::io::Write;
 use std::process::{Command, Output, Stdio};
 
+use crate::programs::Said;
 use crate::random::Random;
 use crate::{cases, generate, listing, report};
 
@@ -31,10 +32,26 @@ pub fn run(program: &str, input: &[u8]) -> Answer {
 }
 
 impl Answer {
-    /// The expected text, nothing on standard error, and exit status 0: a program that crashes once it has written the text is wrong.
-    pub fn is(&self, expected: &str) -> bool {
+    /// The expected bytes, nothing on standard error, and exit status 0: a program that crashes once it has written them is wrong.
+    pub fn is(&self, expected: impl AsRef<[u8]>) -> bool {
+        self.wrote(expected.as_ref(), b"")
+    }
+
+    /// The same of a program that refuses on standard error.
+    pub fn says(&self, said: &Said) -> bool {
+        match said {
+            Ok(bytes) => self.wrote(bytes, b""),
+            Err(line) => self.wrote(b"", line.as_bytes()),
+        }
+    }
+
+    fn wrote(&self, out: &[u8], err: &[u8]) -> bool {
         let Answer(Output { status, stdout, stderr }) = self;
-        status.success() && stderr.is_empty() && stdout == expected.as_bytes()
+        status.success() && stdout == out && stderr == err
+    }
+
+    pub fn output(&self) -> &[u8] {
+        &self.0.stdout
     }
 }
 

@@ -133,21 +133,41 @@ pub fn time(text: &[u8], round: Round) -> Result<u64, u32> {
     })
 }
 
-/// The text of a checked table.
+/// The text of a checked table. It is what `unarchive` is measured against, hence digit by digit into one string.
 pub fn write(table: &Table) -> String {
-    let mut text = format!("cpus {}\n", table.m);
+    let mut text = String::from("cpus");
+    push_count(&mut text, table.m);
     for task in table.used() {
-        text.push_str(&format!("task {} {} {}\n", milliseconds(task.t), milliseconds(task.c), milliseconds(task.d)));
-        for (k, lock) in task.locks.iter().enumerate() {
-            if lock.n > 0 {
-                text.push_str(&format!("use {} {} {} {}\n", k + 1, lock.n, milliseconds(lock.c), milliseconds(lock.ct)));
-            }
+        text.push_str("\ntask");
+        [task.t, task.c, task.d].into_iter().for_each(|us| push_time(&mut text, us));
+        for (k, lock) in task.locks.iter().enumerate().filter(|(_, lock)| lock.n > 0) {
+            text.push_str("\nuse");
+            [k as u64 + 1, lock.n].into_iter().for_each(|x| push_count(&mut text, x));
+            [lock.c, lock.ct].into_iter().for_each(|us| push_time(&mut text, us));
         }
     }
+    text.push('\n');
     text
 }
 
-fn milliseconds(us: u64) -> String {
-    let text = format!("{}.{:03}", us / 1000, us % 1000);
-    text.trim_end_matches('0').trim_end_matches('.').to_string()
+fn push_count(text: &mut String, x: u64) {
+    text.push(' ');
+    push_digits(text, x, 1);
+}
+
+/// Microseconds as milliseconds, without the zeros that a fraction ends in.
+fn push_time(text: &mut String, us: u64) {
+    push_count(text, us / 1_000);
+    if us % 1_000 > 0 {
+        text.push('.');
+        push_digits(text, us % 1_000, 3);
+        text.truncate(text.trim_end_matches('0').len());
+    }
+}
+
+fn push_digits(text: &mut String, x: u64, least: u32) {
+    if x >= 10 || least > 1 {
+        push_digits(text, x / 10, least.saturating_sub(1));
+    }
+    text.push(char::from(b'0' + (x % 10) as u8));
 }

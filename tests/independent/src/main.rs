@@ -1,12 +1,18 @@
 //! A second analyser, written from the paper and the change requests and not from the proved one, to hold that to. It shares no line with it.
 //!
 //!     independent report < LISTING          what `report` is to print
+//!     independent archive < LISTING         what `archive` is to write: the card, or a refusal on standard error
+//!     independent unarchive < CARD          what `unarchive` is to write: the listing, or a refusal on standard error
 //!     independent rounds < LISTING          how many demands the iteration works out, all tasks together
-//!     independent times REPORT LISTING      the least time of REPORT and of this program on it, in microseconds
+//!     independent times PROGRAM COMMAND INPUT
+//!                                           the least time of PROGRAM and of COMMAND of this program on INPUT, in microseconds
 //!     independent bench FOLDER              write the benchmark's listings there
-//!     independent compare REPORT PROBE      run both on many listings and tables and compare; exit 1 on a difference
+//!     independent compare REPORT PROBE ARCHIVE UNARCHIVE
+//!                                           run them on many listings, tables and cards and compare; exit 1 on a difference
 
 mod analysis;
+mod card;
+mod cards;
 mod cases;
 mod compare;
 mod edges;
@@ -15,10 +21,12 @@ mod listing;
 mod measure;
 mod points;
 mod probe;
+mod programs;
 mod random;
 mod report;
 mod table;
 
+use programs::Said;
 use std::io::{Read, Write};
 use std::process::ExitCode;
 
@@ -26,21 +34,16 @@ fn main() -> ExitCode {
     let words: Vec<String> = std::env::args().skip(1).collect();
     let words: Vec<&str> = words.iter().map(String::as_str).collect();
     match words[..] {
-        ["report"] => {
-            let mut bytes = Vec::new();
-            std::io::stdin().read_to_end(&mut bytes).expect("standard input");
-            std::io::stdout().write_all(report::quick(&bytes).as_bytes()).expect("standard output");
-            ExitCode::SUCCESS
-        }
+        ["report"] => say(Ok(report::quick(&input()).into_bytes())),
+        ["archive"] => say(programs::archive(&input())),
+        ["unarchive"] => say(programs::unarchive(&input())),
         ["rounds"] => {
-            let mut bytes = Vec::new();
-            std::io::stdin().read_to_end(&mut bytes).expect("standard input");
-            let table = listing::read(&bytes).expect("an accepted listing");
+            let table = listing::read(&input()).expect("an accepted listing");
             println!("{}", (0..table.n as usize).map(|i| analysis::iterate(&table, i).1).sum::<u64>());
             ExitCode::SUCCESS
         }
-        ["times", report, path] => {
-            measure::times(report, path);
+        ["times", program, command, path] => {
+            measure::times(program, command, path);
             ExitCode::SUCCESS
         }
         ["bench", folder] => {
@@ -49,17 +52,38 @@ fn main() -> ExitCode {
             }
             ExitCode::SUCCESS
         }
-        ["compare", report, probe] => {
+        ["compare", report, probe, archive, unarchive] => {
             points::hold();
-            if compare::reports(report) && probe::readings(probe) && probe::compare(probe) && probe::longest_text(report, probe) {
+            let same = compare::reports(report)
+                && probe::readings(probe)
+                && probe::compare(probe)
+                && probe::longest_text(report, probe)
+                && probe::archives(probe)
+                && programs::compare(archive, unarchive);
+            if same {
                 ExitCode::SUCCESS
             } else {
                 ExitCode::FAILURE
             }
         }
         _ => {
-            eprintln!("usage: independent report | rounds | times REPORT LISTING | bench FOLDER | compare REPORT PROBE");
+            eprintln!("usage: independent report | archive | unarchive | rounds | times PROGRAM COMMAND INPUT | bench FOLDER | compare REPORT PROBE ARCHIVE UNARCHIVE");
             ExitCode::FAILURE
         }
     }
+}
+
+fn input() -> Vec<u8> {
+    let mut bytes = Vec::new();
+    std::io::stdin().read_to_end(&mut bytes).expect("standard input");
+    bytes
+}
+
+/// The exit status says nothing of a refusal: the proved programs have none to give.
+fn say(said: Said) -> ExitCode {
+    match said {
+        Ok(bytes) => std::io::stdout().write_all(&bytes).expect("standard output"),
+        Err(line) => std::io::stderr().write_all(line.as_bytes()).expect("standard error"),
+    }
+    ExitCode::SUCCESS
 }

@@ -4,7 +4,7 @@
 use crate::analysis::{demand, terms, verdict, workload, Terms, Verdict};
 use crate::listing::Round::{Down, Up};
 use crate::table::{Lock, Refusal, Table, Task, TIME};
-use crate::{cases, listing, report};
+use crate::{card, cards, cases, listing, programs, report};
 
 /// Stops the comparison if a point fails.
 pub fn hold() {
@@ -17,6 +17,8 @@ pub fn hold() {
     each_field();
     rounded();
     longest();
+    archived();
+    answers();
     println!("the points of the paper and of the requests hold in this program");
 }
 
@@ -179,4 +181,35 @@ fn longest() {
     let lock = Lock { n: 1_000, c: 1, ct: 1_000 };
     let task = Task { t: TIME, c: 16_000, d: TIME, locks: [lock; 16] };
     assert_eq!(table(&text), Table { m: 4, n: 32, tasks: [task; 32] });
+}
+
+/// Request 2/12: the blocks of case A, and RFC 1071's own example of a sum.
+fn archived() {
+    assert_eq!(card::checksum(&[0x00, 0x01, 0xf2, 0x03, 0xf4, 0xf5, 0xf6, 0xf7]), !0xddf2);
+    let case_a = cards::archive(cases::CASE_A);
+    let header = [0x54, 0x42, 0x01, 0x02, 0x03, 0x01, 0x00, 0x00];
+    let times = [0x00, 0x00, 0x27, 0x10, 0x00, 0x00, 0x09, 0xc4, 0x00, 0x00, 0x27, 0x10];
+    let lock = [0x00, 0x01, 0x00, 0x00, 0x01, 0xf4, 0x00, 0x00, 0x01, 0xf4];
+    let first = [&header[..], &times, &lock, &[0; 480], &[0x4b, 0xed]].concat();
+    assert_eq!(case_a[..512], first);
+    assert_eq!([512, 1_024, 1_536].map(|end| [case_a[end - 2], case_a[end - 1]]), [[0x4b, 0xed], [0x0f, 0x61], [0x9d, 0x1b]]);
+    assert_eq!(cards::archive(cards::ZERO_CHECK)[510..], [0, 0]);
+    // the sixteenth lock ends where the zeros begin
+    assert_eq!(card::write(&cards::full())[170..182], [0x03, 0xd9, 0x00, 0x01, 0x20, 0x80, 0x00, 0x02, 0x31, 0xf0, 0x00, 0x00]);
+    assert_eq!(programs::archive(b"cpus 2\ntask 0 1 1\n"), Err("refused 4 line 2\n".into()));
+    assert_eq!(programs::unarchive(&cards::archive(cases::TRACED)), Ok(cases::CASE_A.into()));
+    assert_eq!(programs::unarchive(&[0; 512]), Err("refused 13 place 1\n".into()));
+}
+
+/// The named cards are answered as they say. Reader and writer undo each other, and no table has a second archive.
+fn answers() {
+    for (name, bytes, refusal) in cards::named() {
+        assert_eq!(card::read(&bytes).err(), refusal, "{name}");
+    }
+    assert_eq!(card::read(&card::write(&cards::full())), Ok(cards::full()));
+    for (name, bytes) in cards::all() {
+        if let Ok(table) = card::read(&bytes) {
+            assert_eq!(card::write(&table), bytes, "{name}");
+        }
+    }
 }

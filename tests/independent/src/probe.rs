@@ -1,22 +1,30 @@
-//! Tables handed over directly, by way of the program `probe`: the check, one task's bound, rows and outputs of every length. And listings: which
-//! table each is read as.
+//! Tables handed over directly, by way of the program `probe`: the check, one task's bound, rows and outputs of every length. And listings and
+//! cards: which table each is read as.
 //! docs/PROBE.md describes its input.
 
 use crate::analysis::{self, Verdict};
 use crate::compare::{self, run, Tally};
+use crate::programs::refused;
 use crate::random::Random;
 use crate::table::{Lock, Refusal, Table};
-use crate::{edges, generate, listing, report};
+use crate::{card, cards, edges, generate, listing, report};
 
 const TABLES: u64 = 600;
 const ROWS: usize = 40;
 const OUTPUT: usize = 20_000;
-/// The bytes of a request, and of a listing that fits in one.
-const REQUEST: usize = 6_548;
-const LISTING: usize = REQUEST - 8;
+/// What a request has after its first two words: a table, or a listing or a card of as many bytes at most.
+const ROOM: usize = 20_000;
 
-fn request(entry: u32, argument: u32, table: &Table) -> Vec<u8> {
-    let mut words = vec![entry, argument, table.m as u32, (table.n >> 32) as u32, table.n as u32];
+/// What a listing or a card does not fill is not to be looked at.
+fn request(entry: u32, argument: u32, bytes: &[u8]) -> Vec<u8> {
+    let mut request = [entry, argument].map(u32::to_be_bytes).concat();
+    request.extend(bytes);
+    request.resize(8 + ROOM, b'%');
+    request
+}
+
+fn words(table: &Table) -> Vec<u8> {
+    let mut words = vec![table.m as u32, (table.n >> 32) as u32, table.n as u32];
     for task in &table.tasks {
         words.extend([task.t as u32, task.c as u32, task.d as u32]);
         for lock in &task.locks {
@@ -24,10 +32,6 @@ fn request(entry: u32, argument: u32, table: &Table) -> Vec<u8> {
         }
     }
     words.iter().flat_map(|w| w.to_be_bytes()).collect()
-}
-
-fn refused((number, place): Refusal) -> String {
-    format!("refused {number} place {place}\n")
 }
 
 fn verdict(v: Verdict) -> String {
@@ -66,26 +70,41 @@ fn row(table: &Table, room: usize) -> String {
     answer + &lines.concat()
 }
 
-fn output(table: &Table, room: usize) -> String {
+/// An output of so many bytes, into which a writer puts a table.
+fn output(table: &Table, room: usize, write: fn(&Table) -> Vec<u8>) -> Vec<u8> {
     let mut bytes = vec![b'#'; OUTPUT];
     let answer = match table.check() {
         Err(r) => refused(r),
         Ok(()) => {
-            let text = listing::write(table);
-            if room < text.len() {
+            let written = write(table);
+            if room < written.len() {
                 refused((11, 0))
             } else {
-                bytes[..text.len()].copy_from_slice(text.as_bytes());
-                format!("wrote {}\n", text.len())
+                bytes[..written.len()].copy_from_slice(&written);
+                format!("wrote {}\n", written.len())
             }
         }
     };
-    answer + &String::from_utf8(bytes).unwrap()
+    [answer.into_bytes(), bytes].concat()
+}
+
+fn text(table: &Table) -> Vec<u8> {
+    listing::write(table).into_bytes()
+}
+
+/// What was read, shown as its text; of what was refused, that its table has no task.
+fn read(table: Result<Table, Refusal>) -> Vec<u8> {
+    let (answer, table) = match table {
+        Ok(table) => ("fine\n".into(), table),
+        Err(r) => (refused(r), Table::zero()),
+    };
+    [answer.into_bytes(), output(&table, OUTPUT, text)].concat()
 }
 
 /// What the answer was, without the numbers that differ from table to table.
-fn outcome(entry: &str, answer: &str) -> String {
-    let first = answer.lines().next().unwrap_or("");
+fn outcome(entry: &str, answer: &[u8]) -> String {
+    let first = answer.split(|&b| b == b'\n').next().unwrap_or(b"");
+    let first = String::from_utf8_lossy(first);
     let mut words = first.split(' ');
     match words.next() {
         Some("refused") => format!("{entry}: refused {:>2}", words.next().unwrap_or("")),
@@ -94,27 +113,35 @@ fn outcome(entry: &str, answer: &str) -> String {
     }
 }
 
+/// How many bytes a writer is given for a table: too few, just enough, more. One that is refused anyway gets any number.
+fn space(r: &mut Random, table: &Table, write: fn(&Table) -> Vec<u8>) -> u32 {
+    let length = if table.check().is_ok() { write(table).len() as u32 } else { 100 };
+    *r.pick(&[0, length - 1, length, length, length + 1, 20_000])
+}
+
 pub fn compare(program: &str) -> bool {
     let mut tally = Tally::new();
     let mut r = Random::new(2);
+    let mut for_cards = Random::new(3);
     let mut tables = edges::tables();
     tables.extend((0..TABLES).map(|_| generate::raw_table(&mut r)));
     for table in tables {
         let n = table.n.min(32) as u32;
         let task = *r.pick(&[0, 1, n / 2 + 1, n, n + 1, u32::MAX]);
         let room = *r.pick(&[0, 1, n.max(1) - 1, n, n, n + 1, 32, 40]);
-        let length = if table.check().is_ok() { listing::write(&table).len() as u32 } else { 100 };
-        let space = *r.pick(&[0, length - 1, length, length, length + 1, 20_000]);
+        let for_text = space(&mut r, &table, text);
+        let for_card = space(&mut for_cards, &table, card::write);
         let asked = [
-            ("check", 1, 0, checked(&table)),
-            ("bound", 2, task, bound(&table, task)),
-            ("analyse", 3, room, row(&table, room as usize)),
-            ("write", 4, space, output(&table, space as usize)),
+            ("check", 1, 0, checked(&table).into_bytes()),
+            ("bound", 2, task, bound(&table, task).into_bytes()),
+            ("analyse", 3, room, row(&table, room as usize).into_bytes()),
+            ("write", 4, for_text, output(&table, for_text as usize, text)),
+            ("card write", 6, for_card, output(&table, for_card as usize, card::write)),
         ];
         for (name, entry, argument, expected) in asked {
-            let found = run(program, &request(entry, argument, &table));
+            let found = run(program, &request(entry, argument, &words(&table)));
             if !found.is(&expected) {
-                println!("{name} with {argument} differs on {table:?}\nhere:\n{expected}\n{program}:\n{found}");
+                println!("{name} with {argument} differs on {table:?}\nhere:\n{}\n{program}:\n{found}", String::from_utf8_lossy(&expected));
                 return false;
             }
             tally.count(outcome(name, &expected));
@@ -124,30 +151,21 @@ pub fn compare(program: &str) -> bool {
     tally.print(&format!("tables: {} compared, {} calls", tally.compared, tally.answers()));
     // each entry point checks its table by itself
     let refusals = |name: &'static str| [4, 5, 7, 8, 9].map(|k| format!("{name}: refused {k:>2}"));
-    let mut wanted: Vec<String> = ["check", "bound", "analyse", "write"].into_iter().flat_map(refusals).collect();
-    wanted.extend(["check: fine", "bound: meets", "bound: misses", "bound: refused 10", "analyse: fine", "analyse: refused 11", "write: wrote", "write: refused 11"].map(String::from));
+    let mut wanted: Vec<String> = ["check", "bound", "analyse", "write", "card write"].into_iter().flat_map(refusals).collect();
+    wanted.extend(["check: fine", "bound: meets", "bound: misses", "bound: refused 10", "analyse: fine", "analyse: refused 11"].map(String::from));
+    wanted.extend(["write: wrote", "write: refused 11", "card write: wrote", "card write: refused 11"].map(String::from));
     tally.covers(&wanted)
-}
-
-fn reading(listing: &[u8]) -> Vec<u8> {
-    let mut bytes = [5u32, listing.len() as u32].map(u32::to_be_bytes).concat();
-    bytes.extend(listing);
-    bytes.resize(REQUEST, 0);
-    bytes
 }
 
 /// Listings that are read, and the table that each gives written again. A report shows a few bounds; this shows every figure that was read, and of a
 /// refused listing that its table has no task.
 pub fn readings(program: &str) -> bool {
     let mut tally = Tally::new();
-    for listing in compare::listings().iter().filter(|listing| listing.len() <= LISTING) {
-        let expected = match listing::read(listing) {
-            Ok(table) => format!("fine\n{}", output(&table, OUTPUT)),
-            Err(r) => refused(r) + &output(&Table::zero(), OUTPUT),
-        };
-        let found = run(program, &reading(listing));
+    for listing in compare::listings().iter().filter(|listing| listing.len() <= ROOM) {
+        let expected = read(listing::read(listing));
+        let found = run(program, &request(5, listing.len() as u32, listing));
         if !found.is(&expected) {
-            println!("read differs on\n{}\nhere:\n{expected}\n{program}:\n{found}", String::from_utf8_lossy(listing));
+            println!("read differs on\n{}\nhere:\n{}\n{program}:\n{found}", String::from_utf8_lossy(listing), String::from_utf8_lossy(&expected));
             return false;
         }
         tally.compared += 1;
@@ -158,6 +176,49 @@ pub fn readings(program: &str) -> bool {
     let mut wanted: Vec<String> = (2..=9).map(|k| format!("read: refused {k:>2}")).collect();
     wanted.push("read: fine".into());
     tally.covers(&wanted)
+}
+
+/// A refusal of a card with what its place was. A reader that looks at the first block alone gets none right at the second.
+fn card_outcome(read: &Result<Table, Refusal>) -> String {
+    match read {
+        Ok(_) => "card read: fine".into(),
+        Err((number, place @ 0..=1)) => format!("card read: refused {number:>2} place {place}"),
+        Err((number, _)) => format!("card read: refused {number:>2} place 2 or later"),
+    }
+}
+
+/// Cards that are read, and the table that each gives written as a listing.
+pub fn archives(program: &str) -> bool {
+    let mut tally = Tally::new();
+    for (name, bytes) in cards::all() {
+        let table = card::read(&bytes);
+        tally.compared += 1;
+        tally.count(card_outcome(&table));
+        let expected = read(table);
+        let found = run(program, &request(7, bytes.len() as u32, &bytes));
+        if !found.is(&expected) {
+            println!("card read differs: {name}\n{}here:\n{}\n{program}:\n{found}", cards::dump(&bytes), String::from_utf8_lossy(&expected));
+            return false;
+        }
+    }
+    tally.print(&format!("cards: {} compared", tally.compared));
+    let later = [4, 5, 7, 13, 14].into_iter().flat_map(|k| ["1", "2 or later"].map(|place| format!("card read: refused {k:>2} place {place}")));
+    let first = ["fine", "refused 12 place 0", "refused  4 place 0"].map(|answer| format!("card read: {answer}"));
+    tally.covers(&first.into_iter().chain(later).collect::<Vec<_>>()) && longest_card(program)
+}
+
+/// The longest archive: written into an output of exactly its length, and refused by one of a byte less.
+fn longest_card(program: &str) -> bool {
+    let table = cards::full();
+    let length = card::write(&table).len();
+    let same = |room: &usize| run(program, &request(6, *room as u32, &words(&table))).is(output(&table, *room, card::write));
+    let unlike: Vec<usize> = [length, length - 1].into_iter().filter(|room| !same(room)).collect();
+    if unlike.is_empty() {
+        println!("the longest archive, {length} bytes, is written");
+    } else {
+        println!("card write differs on 32 tasks with 16 locks each, with an output of {unlike:?} bytes");
+    }
+    unlike.is_empty()
 }
 
 /// No accepted table has a longer text: every pair in use, each number as long as it can be written. Of 16 totals that a run time of
@@ -178,16 +239,16 @@ fn longest() -> Table {
 /// The longest text: written into an output of exactly its length, refused by one of a byte less, and read back.
 pub fn longest_text(report: &str, program: &str) -> bool {
     let table = longest();
-    let text = listing::write(&table);
-    assert_eq!(listing::read(text.as_bytes()).as_ref(), Ok(&table), "the longest text is not read back here");
-    let written = |room: usize| (run(program, &request(4, room as u32, &table)), output(&table, room));
-    let read = (run(report, text.as_bytes()), report::text(text.as_bytes()));
-    for (found, expected) in [written(text.len()), written(text.len() - 1), read] {
+    let longest = text(&table);
+    assert_eq!(listing::read(&longest).as_ref(), Ok(&table), "the longest text is not read back here");
+    let written = |room: usize| (run(program, &request(4, room as u32, &words(&table))), output(&table, room, text));
+    let read = (run(report, &longest), report::text(&longest).into_bytes());
+    for (found, expected) in [written(longest.len()), written(longest.len() - 1), read] {
         if !found.is(&expected) {
-            println!("the longest text differs\nhere:\n{expected}\nthere:\n{found}");
+            println!("the longest text differs\nhere:\n{}\nthere:\n{found}", String::from_utf8_lossy(&expected));
             return false;
         }
     }
-    println!("the longest text, {} bytes, is written and read back", text.len());
+    println!("the longest text, {} bytes, is written and read back", longest.len());
     true
 }

@@ -19,7 +19,7 @@ pub fn quick(bytes: &[u8]) -> String {
     listing::read(bytes).map_or_else(refused, |table: Table| accepted(&analysis::quick(&table)))
 }
 
-fn refused((number, place): Refusal) -> String {
+pub fn refused((number, place): Refusal) -> String {
     format!("refused {number} line {place}\n")
 }
 
