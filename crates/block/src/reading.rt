@@ -24,7 +24,9 @@ pub(crate) fn two(s: &[u8], at: usize) -> u32
     requires { ⌜ at ≤ 510 ⌝ }
     ensures { λ r. ⌜ r ≡ numberAt (now (s .entry)) at 2 ⌝ }
 {
-    byte(s, at) * 256 + byte(s, at + 1)
+    let high = byte(s, at);
+    let low = byte(s, at + 1);
+    high * 256 + low
 }
 
 // The number in four bytes from a place on.
@@ -32,7 +34,11 @@ fn four(s: &[u8], at: usize) -> u32
     requires { ⌜ at ≤ 510 ⌝ }
     ensures { λ r. ⌜ r ≡ numberAt (now (s .entry)) at 4 ⌝ }
 {
-    byte(s, at) * 16_777_216 + byte(s, at + 1) * 65_536 + byte(s, at + 2) * 256 + byte(s, at + 3)
+    let a = byte(s, at);
+    let b = byte(s, at + 1);
+    let c = byte(s, at + 2);
+    let d = byte(s, at + 3);
+    a * 16_777_216 + b * 65_536 + c * 256 + d
 }
 
 // The k bytes from a place on are zeros.

@@ -41,13 +41,15 @@ pub(crate) fn is_length(length: usize) -> bool
 fn agrees(first: Head, n: u32, position: u32, h: Head) -> bool
     ensures { λ r. ⌜ r ≡ agrees first n position h ⌝ }
 {
+    let said = h.n;
+    let said_first = first.n;
     if h.cpus != first.cpus {
         return false;
     }
-    if h.n != first.n {
+    if said != said_first {
         return false;
     }
-    if h.n != n {
+    if said != n {
         return false;
     }
     h.number == position
@@ -57,13 +59,15 @@ fn agrees(first: Head, n: u32, position: u32, h: Head) -> bool
 fn check_block(first: Head, n: u32, position: u32, s: &[u8]) -> Checked
     ensures { λ r. ⌜ r ≡ blockFault first n position (now (s .entry)) ⌝ }
 {
-    if !block::is_good(s) {
+    let good = block::is_good(s);
+    let in_place = agrees(first, n, position, block::head_of(s));
+    if !good {
         return Checked::Refused(Refusal {
             fault: Fault::BadBlock,
             place: position,
         });
     }
-    if !agrees(first, n, position, block::head_of(s)) {
+    if !in_place {
         return Checked::Refused(Refusal {
             fault: Fault::Mismatch,
             place: position,
