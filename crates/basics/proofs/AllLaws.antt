@@ -1,13 +1,15 @@
 -- The laws of a test that holds at each index below n.
 -- Assumes nothing.
 use Prim.Native.Nat.{ℕ, zero, suc, _+_, _<_}
-use mathlib.Core.Path.{_≡_, refl}
-use mathlib.Core.Bool.{Bool, true, false}
-use native.Mathlib.Nat.{not-suc-le-zero}
+use mathlib.Core.Path.{_≡_, refl, ap, _∙_}
+use mathlib.Core.Bool.{Bool, true, false, _&&_}
+use native.Mathlib.Nat.{not-suc-le-zero, zero-add}
+use borrow.Author.Tests.{ne-eqb}
+use lib.Dec.{eqb}
 use native.Mathlib.Numerals.{add-one}
 use native.Mathlib.Decide.{ℕ-discrete}
 use native.Mathlib.Omega.{arith}
-use Rattle.basics.specs.Over.{allTo}
+use Rattle.basics.specs.Over.{sumTo, allTo}
 use Rattle.basics.proofs.ChoiceLaws.{and-true}
 
 pub all-none : (p : ℕ → Bool) → allTo 0 p ≡ true
@@ -42,3 +44,13 @@ pub all-hold : (n : ℕ) (p : ℕ → Bool) → ((k : ℕ) → k < n → p k ≡
 unfolding allTo
 all-hold zero p h = refl
 all-hold (suc n) p h = rw (all-hold n p (λ k l. h k (omega arith)), h n (omega arith))
+
+-- a sum is 0 exactly if each of its values is
+pub all-zero : (n : ℕ) (f : ℕ → ℕ) → eqb (sumTo n f) 0 ≡ allTo n (λ k. eqb (f k) 0)
+unfolding allTo sumTo
+all-zero zero f = refl
+all-zero (suc n) f = plus-zero (sumTo n f) (f n) ∙ ap (λ (b : Bool). b && eqb (f n) 0) (all-zero n f)
+  where
+    plus-zero : (x y : ℕ) → eqb (x + y) 0 ≡ (eqb x 0 && eqb y 0)
+    plus-zero zero y = rw zero-add
+    plus-zero (suc x) y = rw (ne-eqb (suc x + y) 0 (λ e. omega arith), ne-eqb (suc x) 0 (λ e. omega arith))

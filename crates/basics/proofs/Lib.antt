@@ -2,7 +2,7 @@
 --   ChoiceLaws       stops, passes, and-true, pick-when, within-in, within-low, within-high, within-true, only-below
 --   SumLaws          sum-none, sum-more, sum-le, sum-rises, sum-part, sum-bound, sum-eq, sum-one, sum-add, sum-some, sum-wider
 --   MaxLaws          max-more, max-bound, max-le, max-rises, max-wider
---   AllLaws          all-none, all-more, all-at, all-fails, all-hold
+--   AllLaws          all-none, all-more, all-at, all-fails, all-hold, all-zero
 --   FirstIndexLaws   first-none, first-more, First, first-is
 --   JoinLaws         join-none, join-more, join-length, join-room, join-eq, join-bound, join-even, join-at, join-from
 --   RowLaws          row-length, row-at, row-is, row-eq; over-length, over-none, over-more, over-same

@@ -1,41 +1,44 @@
--- `block::reading::zeros` meets its contract. The loop's invariant: the bytes passed are zeros. Assumes nothing.
-use Prim.Native.Nat.{_-_, _≤_}
-use mathlib.Core.Path.{_≡_, sym, _∙_}
-use mathlib.Core.Bool.{true}
+-- `block::reading::zeros` meets its contract. The loop's invariant: the sum is that of the bytes passed. Assumes nothing.
+use Prim.Native.Nat.{_+_, _*_, _-_, _≤_, _<_}
+use mathlib.Core.Path.{_≡_}
 use native.Mathlib.Omega.{arith}
 use borrow.Author.Needs.{needs}
-use borrow.Author.Tests.{eq-eqb, ne-eqb}
-use Rattle.basics.proofs.AllLaws.{all-none, all-more, all-fails}
-use Rattle.block.specs.Block.{zerosAt}
+use Rattle.basics.specs.Over.{sumTo}
+use Rattle.basics.proofs.SumLaws.{sum-none, sum-more}
+use Rattle.basics.proofs.AllLaws.{all-zero}
+use Rattle.block.specs.Numbers.{byteAt}
 use Rattle.block.proofs.reading.zeros.Statement.{statement}
 use Rattle.block.proofs.reading.zeros.Tie as tie
 
 abbrev Inv-loop : tie.InvT-loop
-Inv-loop s at k j₀ j = (j ≤ k) × (zerosAt s at j ≡ true)
+Inv-loop s at k sum₀ j₀ sum j = (j ≤ k) × (sum ≤ 255 * j) × (sum ≡ sumTo j (λ i. byteAt s (at + i)))
 
 abbrev μ-loop : tie.MeasureT-loop
-μ-loop s at k j₀ j = k - j
+μ-loop s at k sum₀ j₀ sum j = k - j
+
+-- the byte is one
+fits : (c : tie.After-shared-slice-known Inv-loop μ-loop) → let l = c .before .before in byteAt (l .before .args .s .now) (l .before .args .at + l .loop .j) < 256
+fits c = let l = c .before .before in omega (arith, c .shared-slice-known .given (l .before .args .at + l .loop .j))
 
 loop-holds : tie.Need-loop-holds Inv-loop μ-loop
-loop-holds c = (omega arith, all-none _)
+loop-holds c = (omega arith, omega arith, sum-none _)
 
-returns : tie.Need-returns Inv-loop μ-loop
-returns c =
-    let b = c .before in
-    let l = b .before .before in
-    sym (all-fails _ (l .loop .j) _ (b .before .loop-test .taken) (ne-eqb _ _ (λ e. c .if1 .taken (b .byte .ensures .0 ∙ e))))
+cast-sum : tie.Need-cast-sum Inv-loop μ-loop
+cast-sum c = omega (arith, fits c)
+
+add-sum-2 : tie.Need-add-sum-2 Inv-loop μ-loop
+add-sum-2 c = omega (arith, fits c)
 
 loop-again : tie.Need-loop-again Inv-loop μ-loop
 loop-again c =
-    let b = c .before in
-    let l = b .before .before in
-    (omega arith, all-more (l .loop .j) _ (l .loop .inv .1) (eq-eqb _ _ (sym (b .byte .ensures .0) ∙ c .if1 .left)))
+    let l = c .before .before in
+    (omega arith, omega (arith, fits c), rw (sum-more, l .loop .inv .2))
 
-returns-2 : tie.Need-returns-2 Inv-loop μ-loop
-returns-2 c =
-    let a = c .before .before .before .args in
-    let e : c .before .loop .j ≡ a .k = omega arith in
-    sym (rw e at (c .before .loop .inv .1))
+returns : tie.Need-returns Inv-loop μ-loop
+returns c =
+    let l = c .before in
+    let e : l .loop .j ≡ l .before .args .k = omega arith in
+    rw (l .loop .inv .2, e) (all-zero _ _)
 
 pub zeros-spec : {M : Type 1} → statement M
 zeros-spec =
@@ -45,9 +48,10 @@ zeros-spec =
     μ-loop
     loop-holds
     (λ c. search needs)
-    (λ c κs. search needs)
-    returns
+    (λ c. search needs)
+    cast-sum
+    add-sum-2
     (λ c. search needs)
     (λ c. search needs)
     loop-again
-    returns-2)
+    returns)

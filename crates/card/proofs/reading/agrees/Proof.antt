@@ -1,5 +1,4 @@
 -- `card::reading::agrees` meets its contract: the tests are the definition's, in its order. Assumes nothing.
-use borrow.Author.Needs.{needs}
 use borrow.Author.Tests.{eq-eqb, ne-eqb}
 use Rattle.card.specs.Archive.{agrees}
 use Rattle.card.proofs.reading.agrees.Statement.{statement}
