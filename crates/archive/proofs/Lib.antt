@@ -1,3 +1,3 @@
 -- Laws of what `archive` writes.
---   Fits   it is within the output
+--   Fits   there is room for it
 pub mod Fits

@@ -1,20 +1,20 @@
--- What the program `archive` makes of a listing: the listing's refusal, or the archive of its table.
+-- What the program `archive` makes of a listing: the listing's refusal, or the archive of its table. There is always room for it, so 11 is not among them.
 use Prim.Native.Nat.{ℕ, _*_}
 use mathlib.Core.List.{List}
-use lib.ListN.{length}
-use Rattle.table.specs.declared.Checked.{Checked}
 use Rattle.table.specs.declared.Written.{Written}
-use Rattle.table.specs.Faults.{_then_}
+use Rattle.table.specs.Limits.{maxTasks}
 use Rattle.table.specs.Answers.{orWrote, orText}
 use Rattle.listing.specs.Read.{readListing}
 use Rattle.block.specs.Block.{blockSize}
-use Rattle.card.specs.Archive.{archiveOf, archivingFault}
+use Rattle.card.specs.Archive.{archiveOf}
 
-unfoldable pub listingFault : List ℕ → ℕ → Checked
-listingFault s room = readListing s .answer then archivingFault (readListing s .table) room
+-- the longest archive
+abbrev pub maxArchive : ℕ
+maxArchive = blockSize * maxTasks
 
-unfoldable pub archivingAnswer : List ℕ → ℕ → Written
-archivingAnswer s room = orWrote (listingFault s room) (blockSize * readListing s .table .n)
+unfoldable pub fromListing : List ℕ → Written
+fromListing s = orWrote (readListing s .answer) (blockSize * readListing s .table .n)
 
-unfoldable pub archiving : List ℕ → List ℕ → List ℕ
-archiving s out = orText (listingFault s (length out)) (archiveOf (readListing s .table)) out
+-- the output, once the archive stands at its start
+unfoldable pub withArchive : List ℕ → List ℕ → List ℕ
+withArchive s out = orText (readListing s .answer) (archiveOf (readListing s .table)) out

@@ -47,10 +47,11 @@ blockOf h x = bodyOf h x ++ inBytes 2 (checkOf (bodyOf h x))
 abbrev pub zerosAt : List ℕ → ℕ → ℕ → Bool
 zerosAt s at k = allTo k (λ j. eqb (byteAt s (at + j)) 0)
 
--- 13 is "a wrong check, mark, version or zero"; bytes 510 and 511 equal the check, and do not only complete it: hex 0000 and FFFF are two ways to complete one sum
+-- 13 is "a wrong check, mark, version or zero": the mark, the version and the zeros
 unfoldable pub markedBlock : List ℕ → Bool
 markedBlock s = eqb (byteAt s 0) 0x54 && eqb (byteAt s 1) 0x42 && eqb (byteAt s 2) 1 && zerosAt s 6 2 && zerosAt s 180 330
 
+-- and the check, of a whole block: bytes 510 and 511 equal it, and do not only complete it: hex 0000 and FFFF are two ways to complete one sum
 unfoldable pub goodBlock : List ℕ → Bool
 goodBlock s = eqb (length s) blockSize && eqb (numberAt s 510 2) (checkOf (take 510 s)) && markedBlock s
 

@@ -3,7 +3,7 @@ use Prim.Native.Nat.{ℕ, zero, suc, _+_, _*_, _/_, _%_}
 use mathlib.Core.List.{List, [], _∷_, _++_}
 use lib.ListN.{getD}
 
--- the number x in k bytes, the highest first
+-- the number x in k bytes, the highest first; of a number that does not fit, its last k bytes
 unfoldable pub inBytes : ℕ → ℕ → List ℕ
 inBytes zero x = []
 inBytes (suc k) x = inBytes k (x / 256) ++ (x % 256 ∷ [])

@@ -24,7 +24,8 @@ fn size()
     ensures { λ _. do ⌜ (← ⟦SIZE⟧ .entry) ≡ blockSize ⌝ }
 {}
 
-// The block of a task, at the start of out; or, where there is no room, that there is none.
+// The block of a task, at the start of out; or, where there is no room, that there is none. Of a number that does not fit its bytes the last ones are written: `card` hands
+// numbers of an accepted table over, which fit.
 pub fn put_block(out: &mut [u8], h: Head, x: Task) -> bool
     ensures { λ r. ⌜ (r ≡ leb blockSize (length (now (out .entry)))) × (now (out .exit) ≡ putInto (blockOf h x) (now (out .entry))) ⌝ }
 {

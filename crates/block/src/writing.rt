@@ -10,18 +10,31 @@ use table::Pair;
 use table::Table;
 use table::Task;
 
-// A number in k bytes, the highest first.
-fn put_number(out: &mut [u8], k: usize, x: u32)
-    requires { ⌜ k ≤ length (now out) ⌝ }
-    ensures { λ _. ⌜ now (out .exit) ≡ inBytes k x ++ drop k (now (out .entry)) ⌝ }
+// A number in two bytes, the higher first; what does not fit is left out.
+fn put_two(out: &mut [u8], x: u32)
+    requires { ⌜ 2 ≤ length (now out) ⌝ }
+    ensures { λ _. ⌜ now (out .exit) ≡ inBytes 2 x ++ drop 2 (now (out .entry)) ⌝ }
 {
-    let mut rest = x;
-    let mut i = k;
-    while 0 < i {
-        i -= 1;
-        out[i] = (rest % 256) as u8;
-        rest /= 256;
-    }
+    let high = (x / 256 % 256) as u8;
+    let low = (x % 256) as u8;
+    out[0] = high;
+    out[1] = low;
+}
+
+// A number in four bytes, the highest first.
+fn put_four(out: &mut [u8], x: u32)
+    requires { ⌜ 4 ≤ length (now out) ⌝ }
+    ensures { λ _. ⌜ now (out .exit) ≡ inBytes 4 x ++ drop 4 (now (out .entry)) ⌝ }
+{
+    let rest = x / 256 / 256;
+    let a = (rest / 256 % 256) as u8;
+    let b = (rest % 256) as u8;
+    let c = (x / 256 % 256) as u8;
+    let d = (x % 256) as u8;
+    out[0] = a;
+    out[1] = b;
+    out[2] = c;
+    out[3] = d;
 }
 
 // k zeros.
@@ -56,9 +69,9 @@ fn put_times(out: &mut [u8], x: Task)
     requires { ⌜ 12 ≤ length (now out) ⌝ }
     ensures { λ _. ⌜ now (out .exit) ≡ timesBytes x ++ drop 12 (now (out .entry)) ⌝ }
 {
-    put_number(out, 4, x.period);
-    put_number(&mut out[4..], 4, x.run);
-    put_number(&mut out[8..], 4, x.deadline);
+    put_four(out, x.period);
+    put_four(&mut out[4..], x.run);
+    put_four(&mut out[8..], x.deadline);
 }
 
 // N, c and CT of a pair.
@@ -66,9 +79,9 @@ fn put_entry(out: &mut [u8], p: Pair)
     requires { ⌜ 10 ≤ length (now out) ⌝ }
     ensures { λ _. ⌜ now (out .exit) ≡ entryBytes p ++ drop 10 (now (out .entry)) ⌝ }
 {
-    put_number(out, 2, p.requests);
-    put_number(&mut out[2..], 4, p.longest);
-    put_number(&mut out[6..], 4, p.total);
+    put_two(out, p.requests);
+    put_four(&mut out[2..], p.longest);
+    put_four(&mut out[6..], p.total);
 }
 
 // The entries of the sixteen resources.
@@ -102,5 +115,5 @@ pub(crate) fn put_all(out: &mut [u8], h: Head, x: Task)
 {
     put_body(out, h, x);
     let check = checksum::check_of(&out[..510]);
-    put_number(&mut out[510..], 2, check);
+    put_two(&mut out[510..], check);
 }

@@ -22,7 +22,7 @@ use Rattle.table.specs.Limits.{maxTasks}
 use Rattle.table.specs.Empty.{emptyTask, emptyTable}
 use Rattle.table.specs.At.{taskAt}
 use Rattle.block.specs.declared.Head.{Head}
-use Rattle.block.specs.Block.{headIn, taskIn}
+use Rattle.block.specs.Block.{blockSize, headIn, taskIn}
 use Rattle.block.proofs.BlockLaws.{block-length}
 use Rattle.card.specs.Archive.{headFor, blockFor, archiveOf, isLength, blockAt, blocksIn, blockFault, blockFaultAt, tableIn}
 
@@ -75,21 +75,16 @@ module _ (t : Table) (i : ℕ) {o o₁ : List ℕ} (q : Filled o o₁ (joinTo i 
       let m : 512 * (i + 1) ≡ 512 * i + 512 = omega arith in
       rw (join-more, m) (filled-part q (blockFor t i) (omega arith) (sym n) l f)
 
-pub archive-length : (t : Table) → length (archiveOf t) ≡ 512 * t .n
+pub archive-length : (t : Table) → length (archiveOf t) ≡ blockSize * t .n
 unfolding archiveOf
 archive-length t = join-even (t .n) 512 (blockFor t) (λ i h. block-length (headFor t i) (taskAt t i))
 
 -- ---- a length of whole blocks
 
-pub record Whole (l n : ℕ) : Type 0 where
-  pub long : l ≡ 512 * n
-  pub least : 1 ≤ n
-  pub most : n ≤ maxTasks
-
-pub length-whole : (l : ℕ) → isLength l ≡ true → Whole l (l / 512)
+pub length-whole : (l : ℕ) → isLength l ≡ true → (l ≡ blockSize * (l / blockSize)) × (1 ≤ l / blockSize) × (l / blockSize ≤ maxTasks)
 unfolding isLength
 length-whole l e =
     let p = and-true (eqb (l % 512) 0) (within 1 maxTasks (l / 512)) e in
     let q = within-true 1 maxTasks (l / 512) (p .1) in
     let r = eqb-true (l % 512) 0 (p .0) in
-    record { long = omega arith; least = q .0; most = q .1 }
+    (omega arith, q .0, q .1)

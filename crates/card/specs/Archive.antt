@@ -38,11 +38,11 @@ archiveOf t = joinTo (t .n) (blockFor t)
 unfoldable pub archivingFault : Table → ℕ → Checked
 archivingFault t room = tableFault t then unless (leb (blockSize * t .n) room) TooShort 0
 
-unfoldable pub archiveAnswer : Table → ℕ → Written
-archiveAnswer t room = orWrote (archivingFault t room) (blockSize * t .n)
+unfoldable pub archivingAnswer : Table → ℕ → Written
+archivingAnswer t room = orWrote (archivingFault t room) (blockSize * t .n)
 
-unfoldable pub archived : Table → List ℕ → List ℕ
-archived t out = orText (archivingFault t (length out)) (archiveOf t) out
+unfoldable pub archiving : Table → List ℕ → List ℕ
+archiving t out = orText (archivingFault t (length out)) (archiveOf t) out
 
 -- ---- an archive as it is read
 

@@ -1,7 +1,7 @@
 // A table to an archive, and an archive to a table: blocks 1 to n, one a task. A block itself is written and read in `block`.
 ghost use mathlib.Core.Path.{_≡_};
 ghost use lib.ListN.{length};
-ghost use Rattle.card.specs.Archive.{archiveAnswer, archived, readArchive};
+ghost use Rattle.card.specs.Archive.{archivingAnswer, archiving, readArchive};
 use block::SIZE;
 use table::Checked;
 use table::Fault;
@@ -15,20 +15,20 @@ mod writing;
 
 // The archive of a table, at the start of out.
 pub fn write(t: Table, out: &mut [u8]) -> Written
-    ensures { λ r. ⌜ (r ≡ archiveAnswer t (length (now (out .entry)))) × (now (out .exit) ≡ archived t (now (out .entry))) ⌝ }
+    ensures { λ r. ⌜ (r ≡ archivingAnswer t (length (now (out .entry)))) × (now (out .exit) ≡ archiving t (now (out .entry))) ⌝ }
 {
     if let Checked::Refused(r) = checking::check(t) {
         return Written::NotWritten(r);
     }
-    let length = SIZE * t.n;
-    if out.len() < length {
+    let needed = SIZE * t.n;
+    if out.len() < needed {
         return Written::NotWritten(Refusal {
             fault: Fault::TooShort,
             place: 0,
         });
     }
     writing::put_blocks(out, t);
-    Written::Wrote(length)
+    Written::Wrote(SIZE * t.n)
 }
 
 // The table that an archive says, or its first refusal.

@@ -41,6 +41,7 @@ pub(crate) fn is_length(length: usize) -> bool
 fn agrees(first: Head, n: u32, position: u32, h: Head) -> bool
     ensures { λ r. ⌜ r ≡ agrees first n position h ⌝ }
 {
+    // in locals, so that a wrong program that compares others keeps the shape
     let said = h.n;
     let said_first = first.n;
     if h.cpus != first.cpus {
@@ -59,6 +60,7 @@ fn agrees(first: Head, n: u32, position: u32, h: Head) -> bool
 fn check_block(first: Head, n: u32, position: u32, s: &[u8]) -> Checked
     ensures { λ r. ⌜ r ≡ blockFault first n position (now (s .entry)) ⌝ }
 {
+    // both before either is looked at, so that a wrong program that looks at the second first keeps the shape
     let good = block::is_good(s);
     let in_place = agrees(first, n, position, block::head_of(s));
     if !good {

@@ -1,4 +1,4 @@
-// What every program does at its standard streams.
+// What the programs for people do at their standard streams.
 ghost use mathlib.Core.Path.{_≡_};
 ghost use Prim.Native.Nat.{ℕ, _≤_};
 ghost use lib.ListN.{length};

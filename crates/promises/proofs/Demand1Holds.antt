@@ -25,7 +25,8 @@ use Rattle.shares.proofs.Determined.{shares-of-determined}
 use Rattle.refusal.proofs.Determined.{put-refusal-determined}
 use Rattle.checksum.proofs.Determined.{check-of-determined}
 use Rattle.block.proofs.Determined.{put-block-determined, is-good-determined, head-of-determined, task-of-determined}
-use Rattle.card.specs.Archive.{archivingFault, archived}
+use Rattle.block.specs.Block.{blockSize}
+use Rattle.card.specs.Archive.{archivingFault, archiving}
 use Rattle.card.proofs.Determined.{read-determined as card-read-determined, write-determined as card-write-determined}
 use Rattle.release.proofs.Called.{archive-empty, refused-as-called as archive-refused}
 use Rattle.analysis.specs.Answers.{boundFault, analysisFault, recordCount, analysed}
@@ -89,14 +90,14 @@ determines =
 -- ---- a refusal changes nothing
 
 keeps : Keeps
-unfolding analysed recordCount joinTo written archived
+unfolding analysed recordCount joinTo written archiving
 keeps =
     record {
       row = λ t row r e. rw e;
       output = λ t out r e. rw e;
       field = λ text out e. short-is text out (sym e) refl .1;
       table = listing-empty;
-      archive = λ t out r e. rw e;
+      archiving = λ t out r e. rw e;
       card = archive-empty;
     }
 
@@ -108,7 +109,7 @@ first-decides =
     record {
       numbers = one-number;
       listing = refused-as-called;
-      archive = archive-refused;
+      card = archive-refused;
       rule = rule-decides;
       two = two-decide;
       many = many-decide;
@@ -116,7 +117,7 @@ first-decides =
       ten = λ t i e. rw e (rule-by _ UnknownTask (within-fails (t .n) (i .0)));
       eleven-row = λ t room e. rw e (rule-by _ TooShort (above-fails (t .n) room));
       eleven-output = λ t room e. rw e (rule-by _ TooShort (above-fails (length (textOf t)) room));
-      eleven-archive = λ t room e. rw e (rule-by _ TooShort (above-fails (512 * t .n) room));
+      eleven-archiving = λ t room e. rw e (rule-by _ TooShort (above-fails (blockSize * t .n) room));
     }
 
 pub demand1 : Demand1

@@ -36,7 +36,7 @@ use Rattle.listing.specs.Read.{readListing}
 use Rattle.meaning.specs.Refusals.{RefusedAsCalled}
 use Rattle.writing.specs.Write.{textOf, writeFault, writeAnswer, written}
 use Rattle.block.specs.Block.{blockSize}
-use Rattle.card.specs.Archive.{archivingFault, archiveAnswer, archived, readArchive}
+use Rattle.card.specs.Archive.{archivingFault, archivingAnswer, archiving, readArchive}
 use Rattle.release.specs.Refusals.{RefusedAsCalled as CardRefusedAsCalled}
 use Rattle.analysis.specs.declared.Record.{Record}
 use Rattle.analysis.specs.Answers.{boundFault, boundOf, analysisFault, analysed, FillsRow}
@@ -84,8 +84,8 @@ pub record Entries : Type 2 where
   pub write-answers : (κs : Lfts 1) → Answers (write.Learnt κs) (λ a. writeAnswer (a .0) (length (a .1 .0 .now)))
   pub write-leaves : (κs : Lfts 1) → Leaves (λ x. x .1 .0 .now) (write.Learnt κs) (λ a. written (a .0) (a .1 .0 .now))
   pub card-read : (κs : Lfts 1) → Answers (card-read.Learnt κs) (λ a. readArchive (a .0 .now))
-  pub card-write-answers : (κs : Lfts 1) → Answers (card-write.Learnt κs) (λ a. archiveAnswer (a .0) (length (a .1 .0 .now)))
-  pub card-write-leaves : (κs : Lfts 1) → Leaves (λ x. x .1 .0 .now) (card-write.Learnt κs) (λ a. archived (a .0) (a .1 .0 .now))
+  pub card-write-answers : (κs : Lfts 1) → Answers (card-write.Learnt κs) (λ a. archivingAnswer (a .0) (length (a .1 .0 .now)))
+  pub card-write-leaves : (κs : Lfts 1) → Leaves (λ x. x .1 .0 .now) (card-write.Learnt κs) (λ a. archiving (a .0) (a .1 .0 .now))
   pub bound : Answers (bound.Learnt tt) (λ a. boundOf (a .0) (a .1 .0))
   -- `analyse` is walked by hand, and the checker makes no `Learnt` of it: this is its `ensures` itself, as the checker has it, at any arguments a, answer r
   -- and arguments at exit x; it says that the row is filled
@@ -141,7 +141,7 @@ pub record Keeps : Type 0 where
   -- "a refused reading gives no table"
   pub table : (s : List ℕ) (r : Refusal) → readListing s .answer ≡ Refused r → readListing s .table ≡ emptyTable
   -- and of an archive the same
-  pub archive : (t : Table) (out : List ℕ) (r : Refusal) → archivingFault t (length out) ≡ Refused r → archived t out ≡ out
+  pub archiving : (t : Table) (out : List ℕ) (r : Refusal) → archivingFault t (length out) ≡ Refused r → archiving t out ≡ out
   pub card : (a : List ℕ) (r : Refusal) → readArchive a .answer ≡ Refused r → readArchive a .table ≡ emptyTable
 
 -- ---- a refusal is given, with its number and place, exactly when its rule is the first that fails (`Refuses c k p`: the check c refuses with the number k, at the place p)
@@ -152,7 +152,7 @@ pub record FirstDecides : Type 0 where
   -- a listing, and a line of it
   pub listing : RefusedAsCalled
   -- an archive: 12, 13 and 14, and then the table's own
-  pub archive : CardRefusedAsCalled
+  pub card : CardRefusedAsCalled
   -- of a table: one rule, two rules after each other, and the rules of n things
   pub rule : (test : Bool) (fault : Fault) (place : ℕ) → Refuses (unless test fault place) (numberOf fault) place exactly-if (test ≡ false)
   pub two : (a b : Checked) (k p : ℕ) → Refuses (a then b) k p exactly-if (Refuses a k p ⊎ ((a ≡ Fine) × Refuses b k p))
@@ -164,7 +164,7 @@ pub record FirstDecides : Type 0 where
   pub ten : (t : Table) (i : Level) → tableFault t ≡ Fine → Refuses (boundFault t i) 10 0 exactly-if ((i .0 ≡ 0) ⊎ (t .n < i .0))
   pub eleven-row : (t : Table) (room : ℕ) → tableFault t ≡ Fine → Refuses (analysisFault t room) 11 0 exactly-if (room < t .n)
   pub eleven-output : (t : Table) (room : ℕ) → tableFault t ≡ Fine → Refuses (writeFault t room) 11 0 exactly-if (room < length (textOf t))
-  pub eleven-archive : (t : Table) (room : ℕ) → tableFault t ≡ Fine → Refuses (archivingFault t room) 11 0 exactly-if (room < blockSize * t .n)
+  pub eleven-archiving : (t : Table) (room : ℕ) → tableFault t ≡ Fine → Refuses (archivingFault t room) 11 0 exactly-if (room < blockSize * t .n)
 
 pub record Demand1 : Type 2 where
   pub entries : Entries

@@ -1,4 +1,4 @@
-// The line that tells a refusal, for every program.
+// The line that tells a refusal, as the programs for people have it.
 ghost use mathlib.Core.Path.{_≡_};
 ghost use mathlib.Core.List.{_++_};
 ghost use Prim.Native.Nat.{_≤_};

@@ -1,19 +1,23 @@
 -- What holds of archives, proved.
 --   NumberBack   numbers that were put are read back, and numbers that were read are put back
 --   GoodLaws     the tests of a block and of its place are the second way to say them
---   BlockBack    a written block is good and says what was written; a good block is the block of what it says
+--   BlockIs      a good block is the block of what it says
+--   BlockBack    a block that was written is good, and says what was written
 --   Parts        an archive and its blocks; what an accepted archive is
 --   Undo         reads-back, writes-again, same-archive, one-archive, passes-check
 --   Changed      one byte changed changes the check
 --   Noticed      an accepted archive with one byte changed is refused
+--   Rules        what one rule's refusal says; the rules of a table of 1 to 32 tasks refuse with neither 8 nor 9
 --   Called       an archive is refused exactly as it calls for, and then gives no table
 --   CasesHold    the cases, computed
 pub mod NumberBack
 pub mod GoodLaws
+pub mod BlockIs
 pub mod BlockBack
 pub mod Parts
 pub mod Undo
 pub mod Changed
 pub mod Noticed
+pub mod Rules
 pub mod Called
 pub mod CasesHold

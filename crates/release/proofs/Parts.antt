@@ -69,7 +69,7 @@ pub whole-blocks : {a : List ℕ} {n : ℕ} → Whole a n → blocksIn a ≡ n
 whole-blocks w = omega (arith, w .long)
 
 pub whole-is : (a : List ℕ) → isLength (length a) ≡ true → Whole a (blocksIn a)
-whole-is a e = let w = length-whole (length a) e in record { least = w .least; most = w .most; long = w .long }
+whole-is a e = let w = length-whole (length a) e in record { long = w .0; least = w .1; most = w .2 }
 
 pub is-whole : (a : List ℕ) (n : ℕ) → Whole a n → isLength (length a) ≡ true
 unfolding isLength

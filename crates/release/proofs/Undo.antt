@@ -30,7 +30,8 @@ use Rattle.card.specs.Archive.{headFor, blockFor, archiveOf, blockAt, blocksIn,
 use Rattle.card.proofs.ArchiveLaws.{archive-length}
 use Rattle.release.specs.Undo.{Bytes, ReadsBack, WritesAgain, SameArchive, OneArchive, PassesCheck}
 use Rattle.release.specs.Refusals.{Whole, InPlace}
-use Rattle.release.proofs.BlockBack.{block-is, Fits, good-back, head-back, task-back}
+use Rattle.release.proofs.BlockIs.{block-is}
+use Rattle.release.proofs.BlockBack.{Fits, good-back, head-back, task-back}
 use Rattle.release.proofs.Parts.{part-of, parts-joined, block-bytes, whole-blocks, accepted-is, Kept, fine-kept, kept-fine}
 
 -- ---- the archive of an accepted table

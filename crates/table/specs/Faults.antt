@@ -38,7 +38,7 @@ numberOf BadBlock = 13
 -- a block's processors or n not block 1's, n not the number of blocks, or its task number not its position
 numberOf Mismatch = 14
 
--- a refusal told by the paper's number and its place
+-- a refusal told by its number and its place
 pub record Told (r : Refusal) (k p : ℕ) : Type 0 where
   pub number : numberOf (r .fault) ≡ k
   pub place : r .place ≡ p

@@ -48,7 +48,7 @@ pub enum Fault {
     Mismatch,
 }
 
-// A fault, and the line or the task it was found at.
+// A fault, and where it was found: a line, a task, or a block of an archive.
 pub struct Refusal {
     pub fault: Fault,
     pub place: u32,
@@ -72,7 +72,7 @@ pub enum Written {
 }
 
 impl Fault {
-    // The number that the paper gives this refusal.
+    // The number that the paper, or a change request, gives this refusal.
     pub fn number(self) -> u32
         ensures { λ r. ⌜ r ≡ numberOf self ⌝ }
     {

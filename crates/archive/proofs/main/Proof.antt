@@ -15,7 +15,7 @@ read c = c .before .before .before .before .read-input .ensures _ (c .before .n 
 made : (c : tie.After-known-told2) → c .before .length .given .0 .0 ≤ length (c .before .before .before .before .archive .last .1 .0)
 made c =
     let w = c .before .before .before .before in
-    omega (arith, archive-fits _ _ _ (sym (w .archive .ensures .0) ∙ c .before .length .given .1), w .archive .kept .1 .0)
+    omega (arith, archive-fits _ _ (sym (w .archive .ensures .0) ∙ c .before .length .given .1), w .archive .kept .1 .0)
 
 array-share-prefix-space : tie.Need-array-share-prefix-space
 array-share-prefix-space c = read c

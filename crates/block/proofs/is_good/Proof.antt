@@ -13,7 +13,7 @@ unfolding goodBlock
 returns c = rw (ne-eqb _ _ (c .if1 .taken))
 
 slice-aggregate-check-of : tie.Need-slice-aggregate-check-of
-slice-aggregate-check-of c = sym (length-take-le 510 (c .before .before .before .before .args .s .now) (omega arith))
+slice-aggregate-check-of c = sym (length-take-le _ (c .before .before .before .before .args .s .now) (omega arith))
 
 returns-2 : tie.Need-returns-2
 unfolding goodBlock

@@ -1,15 +1,17 @@
 -- `card::read` meets its contract: the length, the blocks and the table decide, in this order. Assumes nothing.
-use Prim.Native.Nat.{_/_}
-use mathlib.Core.Path.{sym, _∙_}
+use Prim.Native.Nat.{_*_, _/_, _≤_}
+use mathlib.Core.Path.{_≡_, sym, _∙_}
 use borrow.Author.Needs.{needs}
 use lib.ListN.{length}
 use Rattle.basics.proofs.ChoiceLaws.{stops, passes}
+use Rattle.table.specs.Limits.{maxTasks}
+use Rattle.block.specs.Block.{blockSize}
 use Rattle.card.specs.Archive.{archiveFault, readArchive}
-use Rattle.card.proofs.ArchiveLaws.{Whole, length-whole}
+use Rattle.card.proofs.ArchiveLaws.{length-whole}
 use Rattle.card.proofs.read.Statement.{statement}
 use Rattle.card.proofs.read.Tie as tie
 
-whole : (c : tie.Else1) → let a = c .before .before .before .args in Whole (length (a .archive .now)) (length (a .archive .now) / 512)
+whole : (c : tie.Else1) → let l = length (c .before .before .before .args .archive .now) in (l ≡ blockSize * (l / blockSize)) × (1 ≤ l / blockSize) × (l / blockSize ≤ maxTasks)
 whole c = length-whole _ (passes (c .before .is-length .ensures) (c .if1 .left))
 
 returns : tie.Need-returns
@@ -19,7 +21,7 @@ returns c =
     c .refuse .ensures ∙ rw (stops (l .before .is-length .ensures) (l .if1 .taken))
 
 check-blocks-requires : tie.Need-check-blocks-requires
-check-blocks-requires c κs = let w = whole c in (w .long, w .least, w .most)
+check-blocks-requires c κs = whole c
 
 returns-2 : tie.Need-returns-2
 unfolding archiveFault readArchive
@@ -29,7 +31,7 @@ returns-2 c =
     c .refuse2 .ensures ∙ rw (passes (l .before .is-length .ensures) (l .if1 .left), sym (b .check-blocks .ensures) ∙ c .before .before .r .given .1)
 
 table-of-requires : tie.Need-table-of-requires
-table-of-requires c κs = let w = whole (c .before .before .before) in (w .long, w .least, w .most)
+table-of-requires c κs = whole (c .before .before .before)
 
 returns-3 : tie.Need-returns-3
 unfolding archiveFault readArchive

@@ -6,7 +6,7 @@ use borrow.Author.Tests.{le-leb, lt-leb}
 use Rattle.table.specs.declared.Checked.the-variants.{Fine}
 use Rattle.table.specs.Rules.{tableFault}
 use Rattle.table.proofs.Acceptance.{fine-accepted}
-use Rattle.card.specs.Archive.{archivingFault, archiveAnswer, archived}
+use Rattle.card.specs.Archive.{archivingFault, archivingAnswer, archiving}
 use Rattle.card.proofs.ArchiveLaws.{archive-length}
 use Rattle.card.proofs.write.Statement.{statement}
 use Rattle.card.proofs.write.Tie as tie
@@ -15,23 +15,23 @@ fine : (c : tie.After-enum-told) → tableFault (c .before .before .before .befo
 fine c = sym (c .before .before .check .ensures) ∙ c .enum-told .given .1
 
 returns : tie.Need-returns
-unfolding archivingFault archiveAnswer archived
+unfolding archivingFault archivingAnswer archiving
 returns c = rw (sym (c .before .before .before .check .ensures) ∙ c .before .r .given .1) (refl, refl)
 
-mul-length : tie.Need-mul-length
-mul-length c = omega (arith, fine-accepted _ (fine (c .before)) .tasks-most)
+mul-needed : tie.Need-mul-needed
+mul-needed c = omega (arith, fine-accepted _ (fine (c .before)) .tasks-most)
 
 returns-2 : tie.Need-returns-2
-unfolding archivingFault archiveAnswer archived
+unfolding archivingFault archivingAnswer archiving
 returns-2 c = rw (fine (c .before .before), lt-leb _ _ (c .if1 .taken)) (refl, refl)
 
 put-blocks-requires : tie.Need-put-blocks-requires
 put-blocks-requires c κs = (fine (c .before .before .before), c .before .if1 .left)
 
 returns-3 : tie.Need-returns-3
-unfolding archivingFault archiveAnswer archived
+unfolding archivingFault archivingAnswer archiving
 returns-3 c =
-    let p = c .before .before in
+    let p = c .before .before .before in
     let l = p .before .before in
     rw (fine (l .before .before), le-leb _ _ (l .if1 .left), archive-length) (refl, p .put-blocks .ensures)
 
@@ -43,8 +43,9 @@ write-spec =
     (λ c. search needs)
     returns
     (λ c. search needs)
-    mul-length
+    mul-needed
     returns-2
     put-blocks-requires
+    (λ c. search needs)
     (λ c. search needs)
     returns-3)

@@ -15,7 +15,7 @@ read c = c .before .before .before .before .read-input .ensures _ (c .before .n 
 made : (c : tie.After-known-told2) → c .before .length .given .0 .0 ≤ length (c .before .before .before .before .unarchive .last .1 .0)
 made c =
     let w = c .before .before .before .before in
-    omega (arith, listing-fits _ _ _ (sym (w .unarchive .ensures .0) ∙ c .before .length .given .1), w .unarchive .kept .1 .0)
+    omega (arith, listing-fits _ _ (sym (w .unarchive .ensures .0) ∙ c .before .length .given .1), w .unarchive .kept .1 .0)
 
 array-share-prefix-space : tie.Need-array-share-prefix-space
 array-share-prefix-space c = read c

@@ -17,7 +17,7 @@ use Rattle.block.proofs.writing.put_all.Tie as tie
 slice-aggregate-check-of : tie.Need-slice-aggregate-check-of
 slice-aggregate-check-of c =
     let b = c .before .before .before in
-    sym (length-take-le 510 (b .put-body .last .0) (omega (arith, b .put-body .kept .0)))
+    sym (length-take-le _ (b .put-body .last .0) (omega (arith, b .put-body .kept .0)))
 
 returns : tie.Need-returns
 unfolding blockOf
@@ -29,7 +29,7 @@ returns c =
     let body = bodyOf (a .h) (a .x) in
     let f₁ = put-first (a .out .now) body (body-length _ _) (b .put-body .kept .0) (b .put-body .ensures) in
     let e = k .check-of .ensures ∙ ap (λ (s : List ℕ). checkOf (take 510 s)) (f₁ .holds) ∙ ap checkOf (take-at body _ 510 (body-length _ _)) in
-    put-is (blockOf (a .h) (a .x)) (put-next f₁ (inBytes 2 (k .check-of .result)) (bytes-length 2 _) (omega arith) (n .put-number .kept .0) (n .put-number .ensures)) (rw e)
+    put-is (blockOf (a .h) (a .x)) (put-next f₁ (inBytes 2 (k .check-of .result)) (bytes-length 2 _) (omega arith) (n .put-two .kept .0) (n .put-two .ensures)) (rw e)
 
 pub put-all-spec : {M : Type 1} → statement M
 put-all-spec =

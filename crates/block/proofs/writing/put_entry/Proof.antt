@@ -17,9 +17,9 @@ returns c =
     let n₁ = n₂ .before .before .before .before in
     let a = n₁ .before .before .before .args in
     let x = a .p in
-    let f₁ = put-first (a .out .now) (inBytes 2 (x .requests)) (bytes-length 2 _) (n₁ .put-number .kept .0) (n₁ .put-number .ensures) in
-    let f₂ = put-next f₁ (inBytes 4 (x .longest)) (bytes-length 4 _) (omega arith) (n₂ .put-number2 .kept .0) (n₂ .put-number2 .ensures) in
-    let f₃ = put-next f₂ (inBytes 4 (x .total)) (bytes-length 4 _) (omega arith) (n₃ .put-number3 .kept .0) (n₃ .put-number3 .ensures) in
+    let f₁ = put-first (a .out .now) (inBytes 2 (x .requests)) (bytes-length 2 _) (n₁ .put-two .kept .0) (n₁ .put-two .ensures) in
+    let f₂ = put-next f₁ (inBytes 4 (x .longest)) (bytes-length 4 _) (omega arith) (n₂ .put-four .kept .0) (n₂ .put-four .ensures) in
+    let f₃ = put-next f₂ (inBytes 4 (x .total)) (bytes-length 4 _) (omega arith) (n₃ .put-four2 .kept .0) (n₃ .put-four2 .ensures) in
     put-is (entryBytes x) f₃ (simp append-assoc)
 
 pub put-entry-spec : {M : Type 1} → statement M

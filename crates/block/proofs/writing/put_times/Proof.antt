@@ -17,9 +17,9 @@ returns c =
     let n₁ = n₂ .before .before .before .before in
     let a = n₁ .before .before .before .args in
     let x = a .x in
-    let f₁ = put-first (a .out .now) (inBytes 4 (x .period)) (bytes-length 4 _) (n₁ .put-number .kept .0) (n₁ .put-number .ensures) in
-    let f₂ = put-next f₁ (inBytes 4 (x .run)) (bytes-length 4 _) (omega arith) (n₂ .put-number2 .kept .0) (n₂ .put-number2 .ensures) in
-    let f₃ = put-next f₂ (inBytes 4 (x .deadline)) (bytes-length 4 _) (omega arith) (n₃ .put-number3 .kept .0) (n₃ .put-number3 .ensures) in
+    let f₁ = put-first (a .out .now) (inBytes 4 (x .period)) (bytes-length 4 _) (n₁ .put-four .kept .0) (n₁ .put-four .ensures) in
+    let f₂ = put-next f₁ (inBytes 4 (x .run)) (bytes-length 4 _) (omega arith) (n₂ .put-four2 .kept .0) (n₂ .put-four2 .ensures) in
+    let f₃ = put-next f₂ (inBytes 4 (x .deadline)) (bytes-length 4 _) (omega arith) (n₃ .put-four3 .kept .0) (n₃ .put-four3 .ensures) in
     put-is (timesBytes x) f₃ (simp append-assoc)
 
 pub put-times-spec : {M : Type 1} → statement M
