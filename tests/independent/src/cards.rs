@@ -288,13 +288,18 @@ fn zeros() -> Vec<Card> {
     (ZEROS_AFTER..CHECK_AT).map(|at| ("a byte that must be zero", sealed(&a, &[(at / 4 % 3 + 1, at, &[value(at)])]))).collect()
 }
 
+/// The card of a table, and the number of one of its blocks.
+fn any_block(r: &mut Random) -> (Vec<u8>, usize) {
+    let table = generate::table(r);
+    let number = r.within(1, table.n) as usize;
+    (card::write(&table), number)
+}
+
 /// Checks a little off, and the two zeros of the sum, in a block of any place.
 fn checks(r: &mut Random) -> Vec<Card> {
     let mut all = Vec::new();
     for _ in 0..6 {
-        let table = generate::table(r);
-        let number = r.within(1, table.n) as usize;
-        let card = card::write(&table);
+        let (card, number) = any_block(r);
         let own = card::checksum(&card[(number - 1) * BLOCK..][..CHECK_AT]);
         for check in [own.wrapping_add(1), own.wrapping_sub(1), own.swap_bytes(), !own, 0, 0xffff] {
             all.push(("another check", spoiled(&card, &[(number, CHECK_AT, &check.to_be_bytes())])));
@@ -314,9 +319,7 @@ fn checks(r: &mut Random) -> Vec<Card> {
 fn same_sums(r: &mut Random) -> Vec<Card> {
     let mut all = Vec::new();
     for _ in 0..20 {
-        let table = generate::table(r);
-        let number = r.within(1, table.n) as usize;
-        let card = card::write(&table);
+        let (card, number) = any_block(r);
         let [one, other] = [(); 2].map(|()| 2 * r.within(2, ZEROS_AFTER as u64 / 2 - 1) as usize);
         let word = |at: usize| [0, 1].map(|i| card[(number - 1) * BLOCK + at + i]);
         all.push(("two words exchanged", spoiled(&card, &[(number, one, &word(other)), (number, other, &word(one))])));
