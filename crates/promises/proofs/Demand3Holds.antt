@@ -11,7 +11,7 @@ use Rattle.table.specs.declared.Checked.the-variants.{Fine}
 use Rattle.table.specs.Faults.{firstFault}
 use Rattle.table.specs.Rules.{timesInRange, timesInOrder, timesFault, isUnused, usedInRange, pairInRange, totalsFit, pairFault, pairsFault, taskFault, tasksFault, tableFault}
 use Rattle.theory.specs.declared.Verdict.the-variants.{Meets}
-use Rattle.theory.specs.Work.{workload, jobs, ceilDiv}
+use Rattle.theory.specs.Work.{uncapped, workload, jobs, ceilDiv}
 use Rattle.theory.specs.View.{level, ceiling}
 use Rattle.theory.specs.Demand.{sharedCT, otherCT, allCT, highCT, DB, S, O, F, L, demandWith, demandOf}
 use Rattle.theory.proofs.VerdictLaws.{climb}
@@ -42,7 +42,7 @@ meets : (t : Table) (i k : ℕ) {u : ℕ} → tableFault t ≡ Fine → T (ltb i
 meets t i k e h c x y z = bound-known t i e (lit< h) ∙ ap Known (iterate-meets t i k _ e (lit< h) c x y z)
 
 pub not-empty : NotEmpty
-unfolding caseA allTo rules sumTo maxTo firstTo firstFault timesInRange timesInOrder timesFault isUnused usedInRange pairInRange totalsFit pairFault pairsFault taskFault tasksFault tableFault workload jobs ceilDiv ceiling sharedCT otherCT allCT highCT DB S O F L demandWith climb
+unfolding caseA allTo rules sumTo maxTo firstTo firstFault timesInRange timesInOrder timesFault isUnused usedInRange pairInRange totalsFit pairFault pairsFault taskFault tasksFault tableFault uncapped workload jobs ceilDiv ceiling sharedCT otherCT allCT highCT DB S O F L demandWith climb
 not-empty =
     record {
       longer = record { harder = made refl refl refl; before = meets _ 0 1 refl tt refl tt tt tt; after = meets _ 0 1 refl tt refl tt tt tt };

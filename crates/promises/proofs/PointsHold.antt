@@ -19,7 +19,7 @@ use Rattle.line.specs.Line.{cpusLine, taskLine, useLine, lineSays}
 use Rattle.listing.specs.Read.{pastAfter, newTask, tableAfter, readEnd, readLines, readListing}
 use Rattle.theory.specs.declared.Verdict.{Verdict}
 use Rattle.theory.specs.declared.Verdict.the-variants.{Meets, Misses}
-use Rattle.theory.specs.Work.{workload, jobs, ceilDiv}
+use Rattle.theory.specs.Work.{uncapped, workload, jobs, ceilDiv}
 use Rattle.theory.specs.View.{level, ceiling}
 use Rattle.theory.specs.Demand.{sharedCT, otherCT, allCT, highCT, DB, S, O, F, L, demandWith}
 use Rattle.theory.proofs.VerdictLaws.{climb}
@@ -30,11 +30,11 @@ use Rattle.page.proofs.Reports.{report-accepted}
 use Rattle.promises.specs.Points.{Holds, All, none, _and_, points}
 
 -- the table that a listing is read as
-abbrev tableIn : String → Table
+abbrev pub tableIn : String → Table
 tableIn s = readListing (bytes s) .table
 
 -- the report on a listing of three tasks, by their verdicts
-three : (s : String) (a b c : Verdict) → readListing (bytes s) .answer ≡ Fine → tableIn s .n ≡ 3
+pub three : (s : String) (a b c : Verdict) → readListing (bytes s) .answer ≡ Fine → tableIn s .n ≡ 3
     → verdictIn (tableIn s) (level 0) ≡ a → verdictIn (tableIn s) (level 1) ≡ b → verdictIn (tableIn s) (level 2) ≡ c
     → reportText (bytes s) ≡ bytes "task verdict bound_us\n" ++ ((rowText 1 a ++ rowText 2 b) ++ rowText 3 c)
 unfolding pageText joinTo
@@ -43,7 +43,7 @@ three s a b c e n p q r =
     ∙ rw (n, p, q, r)
 
 pub points-hold : All points
-unfolding Holds points sumTo maxTo firstTo emptyTask emptyTable firstFault timesInRange timesInOrder timesFault isUnused usedInRange pairInRange totalsFit pairFault pairsFault taskFault tasksFault tableFault rounded fraction timeField countField width countText fieldCount cpusLine taskLine useLine lineSays pastAfter newTask tableAfter readEnd readLines readListing workload jobs ceilDiv ceiling sharedCT otherCT allCT highCT DB S O F L demandWith climb verdictText rowText
+unfolding Holds points sumTo maxTo firstTo emptyTask emptyTable firstFault timesInRange timesInOrder timesFault isUnused usedInRange pairInRange totalsFit pairFault pairsFault taskFault tasksFault tableFault rounded fraction timeField countField width countText fieldCount cpusLine taskLine useLine lineSays pastAfter newTask tableAfter readEnd readLines readListing uncapped workload jobs ceilDiv ceiling sharedCT otherCT allCT highCT DB S O F L demandWith climb verdictText rowText
 points-hold =
     (let s : String = "cpus 2\ntask 10 2.5 10\nuse 1 1 0.5 0.5\ntask 20 4 15\ntask 30 6 30\nuse 1 2 0.75 1.5\n" in
     three s (Meets 3_250) (Meets 4_000) (Meets 14_500) refl refl

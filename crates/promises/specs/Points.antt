@@ -52,9 +52,9 @@ points =
     ∷ loads 10 8 5 3 3
     ∷ loads 10 8 7 3 5
     ∷ loads 10 8 8 3 6
-    -- T and D 10, t 2: x 8 gives 4, x 9 gives 3
-    ∷ loads 10 10 2 8 4
-    ∷ loads 10 10 2 9 3
+    -- T and D 10, t 2: from request 3/12 on both x 8 and x 9 give 2, in place of 4 and 3
+    ∷ loads 10 10 2 8 2
+    ∷ loads 10 10 2 9 2
     -- the fields 2.5, 2.05 and 2.500
     ∷ reads "2.5" 2_500
     ∷ reads "2.05" 2_050

@@ -11,7 +11,7 @@ use lib.Seq.{getD-set-same, getD-set-other}
 use Rattle.basics.specs.Over.{sumTo}
 use Rattle.basics.proofs.SumLaws.{sum-none, sum-more, sum-eq}
 use Rattle.table.specs.Limits.{maxTasks}
-use Rattle.theory.specs.Work.{workload}
+use Rattle.theory.specs.Work.{uncapped, workload}
 use Rattle.theory.proofs.WorkLaws.{workload-none}
 use Rattle.rounds.specs.declared.Part.{Part}
 use Rattle.rounds.specs.declared.Shares.{Shares}
@@ -45,7 +45,7 @@ front-none h e =
     }
 
 load-is : {T D x : ℕ} (t : ℕ) {e : Part} → 1 ≤ t → x ≤ D → PartIs T D x e → partLoad e t ≡ workload T D t x
-unfolding workload
+unfolding workload uncapped
 load-is zero h k p = absurd (not-suc-le-zero h)
 load-is {D} {x} (suc t) {e} h k p =
     let o : suc t + e .off ≡ suc t + D - x = omega (arith, p .off) in

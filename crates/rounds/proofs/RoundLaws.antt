@@ -1,11 +1,12 @@
 -- The demand over shares: it never falls, it is at least the base, the packed sums give it, and its rounds lead to the verdict.
 -- Assumes nothing.
-use Prim.Native.Nat.{ℕ, _+_, _-_, _*_, _/_, _≤_, _<_}
+use Prim.Native.Nat.{ℕ, _+_, _-_, _*_, _/_, _≤_, _<_, min}
 use mathlib.Core.Path.{_≡_, sym, ap, ap₂, _∙_}
 use mathlib.Core.List.{List}
 use native.Mathlib.Nat.{le-refl, le-trans, add-le-add}
 use native.Mathlib.Omega.{arith}
 use Rattle.basics.proofs.SumLaws.{sum-none, sum-more, sum-le}
+use Rattle.table.specs.Limits.{maxTime}
 use Rattle.theory.specs.declared.Verdict.the-variants.{Meets, Misses}
 use Rattle.theory.specs.Work.{workload, ceilDiv}
 use Rattle.theory.specs.Verdict.{verdictOf}
@@ -17,7 +18,7 @@ use Rattle.rounds.specs.declared.Divided.{Divided}
 use Rattle.rounds.specs.declared.Shares.{Shares}
 use Rattle.rounds.specs.Shares.{shareAt, wholeOf, partOf, sharesDemand}
 use Rattle.rounds.specs.Outcome.{SoundShares}
-use Rattle.rounds.specs.Parts.{maxSpan, partAt, partLoad, LoadIs, WholesAre, DividedAre}
+use Rattle.rounds.specs.Parts.{partAt, partLoad, UncappedIs, WholesAre, DividedAre}
 use Rattle.rounds.proofs.PackLaws.{loads}
 
 demand-base : (s : Shares) (t : ℕ) → s .base ≤ sharesDemand s t
@@ -49,16 +50,17 @@ demand-rises s D g t t' h =
 -- the workloads over t of the first i parts, summed
 pub record Summed (xs : List Part) (t i sum : ℕ) : Type 0 where
   pub is : sum ≡ loads xs i t
-  pub fits : sum ≤ i * maxSpan
+  pub fits : sum ≤ i * maxTime
 
 pub summed-none : {xs : List Part} {t : ℕ} → Summed xs t 0 0
 summed-none = record { is = sum-none _; fits = omega arith }
 
-pub summed-more : {xs : List Part} {t i sum r : ℕ} → Summed xs t i sum → LoadIs (partAt xs i) t r → Summed xs t (i + 1) (sum + r)
-summed-more {xs} {t} {i} h k =
+pub summed-more : {xs : List Part} {t i sum x r : ℕ} → t ≤ maxTime → Summed xs t i sum → UncappedIs (partAt xs i) t x → r ≡ sum + min t x
+    → Summed xs t (i + 1) r
+summed-more {xs} {t} {i} h s u e =
     record {
-      is = ap₂ _+_ (h .is) (k .is) ∙ sym (sum-more i (λ j. partLoad (partAt xs j) t));
-      fits = omega (arith, h .fits, k .fits);
+      is = e ∙ ap₂ _+_ (s .is) (ap (min t) (u .is)) ∙ sym (sum-more i (λ j. partLoad (partAt xs j) t));
+      fits = omega (arith, s .fits);
     }
 
 -- what a round works out of its two sums

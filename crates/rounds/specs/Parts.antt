@@ -1,5 +1,5 @@
 -- The shares that count, packed in front, and the multiplier that divides by a period.
-use Prim.Native.Nat.{ℕ, _+_, _-_, _*_, _/_, _^_, _≤_, _<_}
+use Prim.Native.Nat.{ℕ, _+_, _-_, _*_, _/_, _^_, _≤_, _<_, min}
 use mathlib.Core.Path.{_≡_}
 use mathlib.Core.List.{List}
 use lib.ListN.{getD}
@@ -16,12 +16,19 @@ use Rattle.rounds.specs.Shares.{shareAt, wholeOf, partOf}
 abbrev pub maxSpan : ℕ
 maxSpan = maxTime + maxTime
 
+-- the most that the workloads of a round can come to, two of each task and each at most t
+abbrev pub maxSum : ℕ
+maxSum = 2 * maxTasks * maxTime
+
 abbrev pub partAt : List Part → ℕ → Part
 partAt xs j = getD xs j (record { period = 0; units = 0; off = 0; shift = 0; mul = 0 })
 
--- the workload over t ≥ 1 of a part
+-- the workload over t ≥ 1 of a part: by document 01, and at most t
+abbrev pub partUncapped : Part → ℕ → ℕ
+partUncapped e t = jobs (e .period) (e .units) (t + e .off)
+
 abbrev pub partLoad : Part → ℕ → ℕ
-partLoad e t = jobs (e .period) (e .units) (t + e .off)
+partLoad e t = min t (partUncapped e t)
 
 -- the multiplier and the shift divide every number that comes up, t + off, by the period. The largest multiplier is 2^38 + 1 (`part_of`)
 pub record Divides (T shift mul : ℕ) : Type 0 where
@@ -41,8 +48,8 @@ pub record PartIs (T D x : ℕ) (e : Part) : Type 0 where
   pub off : e .off ≡ D - x
   pub good : GoodPart e
 
-pub record LoadIs (e : Part) (t r : ℕ) : Type 0 where
-  pub is : r ≡ partLoad e t
+pub record UncappedIs (e : Part) (t r : ℕ) : Type 0 where
+  pub is : r ≡ partUncapped e t
   pub fits : r ≤ maxSpan
 
 -- the parts of the shares that count whole, those of no units left out, come to what the shares come to

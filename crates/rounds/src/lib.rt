@@ -1,13 +1,13 @@
 // The rounds over the shares of one task. They see numbers only: no share that counts nothing, and no division by a period.
 ghost use mathlib.Core.Bool.{_&&_};
 ghost use mathlib.Core.Path.{_≡_};
-ghost use Prim.Native.Nat.{_/_, _≤_, min};
+ghost use Prim.Native.Nat.{_+_, _/_, _≤_, min};
 ghost use Rattle.basics.specs.Choice.{within};
 ghost use Rattle.table.specs.Limits.{maxTime};
 ghost use Rattle.theory.specs.Verdict.{verdictOf};
 ghost use Rattle.rounds.specs.Shares.{sharesDemand};
 ghost use Rattle.rounds.specs.Outcome.{shareFits, headFits, isSound, outcomeOf, Sound, SoundRow, SoundShares};
-ghost use Rattle.rounds.specs.Parts.{maxSpan, GoodPart, PartIs, LoadIs, WholesAre, DividedAre};
+ghost use Rattle.rounds.specs.Parts.{maxSpan, maxSum, GoodPart, PartIs, UncappedIs, WholesAre, DividedAre};
 use table::Table;
 use theory::Verdict;
 
@@ -128,14 +128,23 @@ fn quot(e: Part, a: u32) -> u32
     ((wide(a) * e.mul) >> e.shift) as u32
 }
 
-// The workload of a part over t.
-fn load(e: Part, t: u32) -> u64
+// Document 01's workload of a part over t.
+fn uncapped(e: Part, t: u32) -> u32
     requires { ⌜ GoodPart e × (t ≤ maxTime) ⌝ }
-    ensures { λ r. ⌜ LoadIs e t r ⌝ }
+    ensures { λ r. ⌜ UncappedIs e t r ⌝ }
 {
     let a = t + e.off;
     let q = quot(e, a);
-    wide(q * e.units + least(e.units, a - q * e.period))
+    q * e.units + least(e.units, a - q * e.period)
+}
+
+// A sum and one workload more: no task runs more than t in a window of t. The sum is here too, so that what is capped, each workload or all
+// of them, is decided in one place.
+fn add_load(sum: u64, load: u32, t: u32) -> u64
+    requires { ⌜ (sum ≤ maxSum) × (load ≤ maxSpan) × (t ≤ maxSpan) ⌝ }
+    ensures { λ r. ⌜ r ≡ sum + min t load ⌝ }
+{
+    sum + wide(least(t, load))
 }
 
 // The shares' parts that count whole, those of no units left out: each is stored at the end, and the end moves on if it counts.
@@ -191,15 +200,15 @@ fn iterate(s: Shares, deadline: u32) -> Verdict
         let mut whole: u64 = 0;
         let mut i: usize = 0;
         while i < n {
-            let e = w.of[i];
-            whole = whole + load(e, t);
+            let x = uncapped(w.of[i], t);
+            whole = add_load(whole, x, t);
             i = i + 1;
         }
         let mut part: u64 = 0;
         let mut j: usize = 0;
         while j < m {
-            let e = d.of[j];
-            part = part + load(e, t);
+            let y = uncapped(d.of[j], t);
+            part = add_load(part, y, t);
             j = j + 1;
         }
         let f = s.base + whole + (part + (s.cpus - 1)) / s.cpus;

@@ -1,9 +1,9 @@
--- The demand of a task falls neither with t nor as its table is made harder: demand 3, for any workload that does not fall either.
+-- The demand of a task falls neither with t, nor as its table is made harder (demand 3), nor by a workload that is nowhere less (request 3/12): one law, for any two workloads.
 -- Assumes nothing.
 use Prim.Native.Nat.{ℕ, suc, _+_, _-_, _≤_, _<_}
 use mathlib.Core.Path.{_≡_, refl, sym, ap₂, _∙_}
 use mathlib.Core.Bool.{Bool, true, false, not}
-use native.Mathlib.Nat.{le-refl, mul-le-mul}
+use native.Mathlib.Nat.{le-refl, le-trans, mul-le-mul}
 use native.Mathlib.Decide.{decLe}
 use native.Mathlib.Omega.{arith}
 use borrow.Author.Tests.{le-leb, lt-leb}
@@ -15,13 +15,13 @@ use Rattle.basics.specs.Over.{sumTo}
 use Rattle.basics.proofs.SumLaws.{sum-le, sum-wider, sum-eq, sum-some}
 use Rattle.basics.proofs.MaxLaws.{max-wider}
 use Rattle.theory.specs.declared.Verdict.the-variants.{Meets}
-use Rattle.theory.specs.Work.{workload, ceilDiv}
+use Rattle.theory.specs.Work.{uncapped, workload, ceilDiv}
 use Rattle.theory.specs.View.{View, level, resource, isAbove, largestBelow, uses, ceiling}
 use Rattle.theory.specs.Demand.{sharedCT, otherCT, allCT, highCT, DB, Load, loadOf, S, O, F, L, demandWith, demandOf}
 use Rattle.theory.specs.Verdict.{verdictOf, Right}
 use Rattle.theory.proofs.VerdictLaws.{Rises, keeps-bound, verdict-right}
 use Rattle.theory.specs.Harder.{Harder}
-use Rattle.theory.proofs.WorkLaws.{workload-rises, ceilDiv-rises}
+use Rattle.theory.proofs.WorkLaws.{uncapped-rises, workload-rises, workload-less, ceilDiv-rises}
 use Rattle.theory.proofs.PassLaws.{ceiling-above}
 
 -- what the analysis needs of a table to be monotone at all: a processor, and no period of 0
@@ -29,9 +29,12 @@ pub record Runs (v : View) : Type 0 where
   pub cpus : 1 ≤ v .cpus
   pub T : (l : ℕ) → l < v .n → 1 ≤ v .T (level l)
 
--- never less for a longer t and a shorter period
-abbrev pub RisingLoad : Load → Type 0
-RisingLoad W = (T T' D t t' x : ℕ) → 0 < T' → T' ≤ T → t ≤ t' → W T D t x ≤ W T' D t' x
+-- the second is never less than the first, for a longer t and a shorter period either
+abbrev pub NoLess : Load → Load → Type 0
+NoLess W W' = (T T' D t t' x : ℕ) → 0 < T' → T' ≤ T → t ≤ t' → W T D t x ≤ W' T' D t' x
+
+uncapped-no-less : NoLess workload uncapped
+uncapped-no-less T T' D t t' x pos hT ht = le-trans (workload-less T D t x) (uncapped-rises T T' D t t' x pos hT ht)
 
 pub demand-start : (W : Load) (v : View) (i : Level) (t : ℕ) → v .C i ≤ demandWith W v i t
 unfolding demandWith
@@ -82,23 +85,23 @@ module _ (v w : View) (s : Harder v w) (i : ℕ) (hi : i < v .n) where
       sum-le maxResources _ _
       (λ k r. only-le (uses v (level i) (resource k)) _ _ _ (s .pairs i k hi r) (mul-le-mul (s .N i k hi r) (longest-le k r)))
 
-  module _ (W : Load) (up : RisingLoad W) (runs : Runs w) (t t' : ℕ) (ht : t ≤ t') where
-    load-le : (l x y : ℕ) → l < v .n → y ≡ x → loadOf W v t (level l) x ≤ loadOf W w t' (level l) y
+  module _ (W W' : Load) (up : NoLess W W') (runs : Runs w) (t t' : ℕ) (ht : t ≤ t') where
+    load-le : (l x y : ℕ) → l < v .n → y ≡ x → loadOf W v t (level l) x ≤ loadOf W' w t' (level l) y
     load-le l x y h e = rw (e, s .D l h) (up _ _ (v .D (level l)) t t' x (runs .T l (omega (arith, s .n))) (s .T l h) ht)
 
     -- a sum over some of the tasks
     part-le : (p : Level → Bool) (x y : Level → ℕ) → ((l : ℕ) → l < v .n → y (level l) ≡ x (level l))
         → sumTo (v .n) (λ l. only (p (level l)) (loadOf W v t (level l) (x (level l))))
-        ≤ sumTo (w .n) (λ l. only (p (level l)) (loadOf W w t' (level l) (y (level l))))
+        ≤ sumTo (w .n) (λ l. only (p (level l)) (loadOf W' w t' (level l) (y (level l))))
     part-le p x y e =
         sum-wider (v .n) (w .n) _ _ (s .n)
         (λ l h. only-le (p (level l)) _ _ _ refl (load-le l (x (level l)) (y (level l)) h (e l h)))
 
-    over-le : S W v (level i) t ≤ S W w (level i) t'
+    over-le : S W v (level i) t ≤ S W' w (level i) t'
     unfolding S
     over-le = part-le (λ l. isAbove l (level i)) (sharedCT v (level i)) (sharedCT w (level i)) shared-eq
 
-    others-le : O W v (level i) t + F W v (level i) t + L W v (level i) t ≤ O W w (level i) t' + F W w (level i) t' + L W w (level i) t'
+    others-le : O W v (level i) t + F W v (level i) t + L W v (level i) t ≤ O W' w (level i) t' + F W' w (level i) t' + L W' w (level i) t'
     unfolding O F L
     others-le =
         let above : Level → Bool = λ l. isAbove l (level i) in
@@ -109,7 +112,7 @@ module _ (v w : View) (s : Harder v w) (i : ℕ) (hi : i < v .n) where
           part-le (isAbove (level i)) (highCT v (level i)) (highCT w (level i)) high-eq,
         )
 
-    at-le : demandWith W v (level i) t ≤ demandWith W w (level i) t'
+    at-le : demandWith W v (level i) t ≤ demandWith W' w (level i) t'
     unfolding demandWith
     at-le =
         omega (
@@ -120,9 +123,9 @@ module _ (v w : View) (s : Harder v w) (i : ℕ) (hi : i < v .n) where
           divided (suc i) (v .cpus) (w .cpus) _ _ (runs .cpus) (s .cpus) others-le (decLe (suc i) (v .cpus)),
         )
 
-pub demand-le : (W : Load) → RisingLoad W → (v w : View) → Harder v w → Runs w → (i : ℕ) → i < v .n
-    → (t t' : ℕ) → t ≤ t' → demandWith W v (level i) t ≤ demandWith W w (level i) t'
-demand-le W up v w s runs i hi t t' ht = at-le v w s i hi W up runs t t' ht
+pub demand-le : (W W' : Load) → NoLess W W' → (v w : View) → Harder v w → Runs w → (i : ℕ) → i < v .n
+    → (t t' : ℕ) → t ≤ t' → demandWith W v (level i) t ≤ demandWith W' w (level i) t'
+demand-le W W' up v w s runs i hi t t' ht = at-le v w s i hi W W' up runs t t' ht
 
 -- a table is as hard as itself, so the demand never falls with t
 pub harder-refl : (v : View) → Harder v v
@@ -138,15 +141,26 @@ harder-refl v = record {
   pairs = λ l k h r. refl;
 }
 
-pub demand-rises : (W : Load) → RisingLoad W → (v : View) → Runs v → (i : ℕ) → i < v .n → Rises (demandWith W v (level i))
-demand-rises W up v runs i hi t t' ht = demand-le W up v v (harder-refl v) runs i hi t t' ht
+pub demand-rises : (W : Load) → NoLess W W → (v : View) → Runs v → (i : ℕ) → i < v .n → Rises (demandWith W v (level i))
+demand-rises W up v runs i hi t t' ht = demand-le W W up v v (harder-refl v) runs i hi t t' ht
+
+-- a task that has a bound in the harder table by the greater workload has one in the first by the other, no larger
+keeps : (W W' : Load) → NoLess W W' → (v w : View) → Harder v w → Runs w → (i : ℕ) → i < v .n
+    → (t : ℕ) → verdictOf (demandWith W' w (level i)) (w .D (level i)) ≡ Meets t
+    → (u : ℕ) × (verdictOf (demandWith W v (level i)) (v .D (level i)) ≡ Meets u) × (u ≤ t)
+keeps W W' up v w s runs i hi t e =
+    let f = demandWith W v (level i) in
+    let g = demandWith W' w (level i) in
+    let r : Right g (w .D (level i)) (Meets t) = rw e at (verdict-right g (w .D (level i))) in
+    keeps-bound f g (v .D (level i)) t _ (λ t. demand-le W W' up v w s runs i hi t t (le-refl t))
+    (verdict-right f (v .D (level i))) (rw (s .D i hi) at r)
 
 -- DEMAND 3: a task that has a bound in the harder table has one in the first, no larger
 pub harder-keeps : (v w : View) → Harder v w → Runs w → (i : ℕ) → i < v .n → (t : ℕ) → verdictOf (demandOf w (level i)) (w .D (level i)) ≡ Meets t
     → (u : ℕ) × (verdictOf (demandOf v (level i)) (v .D (level i)) ≡ Meets u) × (u ≤ t)
-harder-keeps v w s runs i hi t e =
-    let f = demandOf v (level i) in
-    let g = demandOf w (level i) in
-    let r : Right g (w .D (level i)) (Meets t) = rw e at (verdict-right g (w .D (level i))) in
-    keeps-bound f g (v .D (level i)) t _ (λ t. demand-le workload workload-rises v w s runs i hi t t (le-refl t))
-    (verdict-right f (v .D (level i))) (rw (s .D i hi) at r)
+harder-keeps = keeps workload workload workload-rises
+
+-- REQUEST 3/12: a task that has a bound by document 01's workload has one by the capped, no larger
+pub capped-keeps : (v : View) → Runs v → (i : ℕ) → i < v .n → (t : ℕ) → verdictOf (demandWith uncapped v (level i)) (v .D (level i)) ≡ Meets t
+    → (u : ℕ) × (verdictOf (demandOf v (level i)) (v .D (level i)) ≡ Meets u) × (u ≤ t)
+capped-keeps v = keeps workload uncapped uncapped-no-less v v (harder-refl v)

@@ -42,13 +42,14 @@ pub record CasesHold : Type 0 where
   -- "m 3, O, F and L each 1: the quotient is 1, not 3"; with m 2 it is 2, not 1
   pub third : quotient 1 1 1 3 ≡ 1
   pub half : quotient 1 1 1 2 ≡ 2
-  -- of task 3 at t 3: twice the 6 of task 4's lock 2; task 2's lock 3; task 1's lock 1; 8 and 9 units without a lock; task 4's lock 1, and not its lock 2
+  -- of task 3 at t 3: twice the 6 of task 4's lock 2; task 2's lock 3; task 1's lock 1; of 8 and 9 units without a lock 3 each, the most that one task can run;
+  -- task 4's lock 1, and not its lock 2
   pub waits : DB four (level 2) ≡ 12
   pub shared : S workload four (level 2) 3 ≡ 2
   pub others : O workload four (level 2) 3 ≡ 3
-  pub free : F workload four (level 2) 3 ≡ 17
+  pub free : F workload four (level 2) 3 ≡ 6
   pub lower : L workload four (level 2) 3 ≡ 3
-  -- C + DB + S and a half of 23
-  pub long : demandOf four (level 2) 3 ≡ 46
+  -- C + DB + S and a half of 12
+  pub long : demandOf four (level 2) 3 ≡ 40
   -- task 2 is the m-th: C + DB + S
   pub short : demandOf four (level 1) 3 ≡ 11

@@ -1,5 +1,5 @@
 -- The analysis of HURRAY-TR-090908 as document 01 gives it, in the order of its equations.
---   Work      (4), (5): the workload; the one quotient, rounded up
+--   Work      (4), (5): the workload, since request 3/12 at most t; the one quotient, rounded up
 --   View      what the analysis reads of a table; the ceiling of a resource
 --   Demand    (6) to (11): DB, S, O, F, L and the demand
 --   Verdict   the bound of a task, or a miss

@@ -1,14 +1,18 @@
--- The workload of one task, document 01, "The analysis" (equations 4 and 5), and the quotient of equation 11.
+-- The workload of one task: document 01, "The analysis" (equations 4 and 5), and from request 3/12 on at most t. The quotient of equation 11.
 use Prim.Native.Nat.{ℕ, zero, suc, _+_, _-_, _*_, _/_, min}
 
 -- "with a = .., q = a divided by T rounded down, it is q × x + the smaller of x and a − q × T"
 unfoldable pub jobs : ℕ → ℕ → ℕ → ℕ
 jobs T x a = a / T * x + min x (a - a / T * T)
 
--- workload T D t x: "0 if t is 0; else with a = t − x + D", which is t + D − x, since x ≤ C ≤ D
+-- document 01's workload, uncapped T D t x: "0 if t is 0; else with a = t − x + D", which is t + D − x, since x ≤ C ≤ D
+unfoldable pub uncapped : ℕ → ℕ → ℕ → ℕ → ℕ
+uncapped T D zero x = 0
+uncapped T D (suc t) x = jobs T x (suc t + D - x)
+
+-- request 3/12: "One task cannot run more than t in a window of t. From now on the workload is the smaller of t and the old one."
 unfoldable pub workload : ℕ → ℕ → ℕ → ℕ → ℕ
-workload T D zero x = 0
-workload T D (suc t) x = jobs T x (suc t + D - x)
+workload T D t x = min t (uncapped T D t x)
 
 -- n / m "rounded up to a whole number"
 unfoldable pub ceilDiv : ℕ → ℕ → ℕ

@@ -36,6 +36,54 @@ pub const ROUNDED: &str = "cpus 1\ntask 0.011 0.009 0.009198\ntask 0.011 0.002 0
 /// each figure, not of the verdicts.
 pub const AS_TYPED: &str = "cpus 1\ntask 11 9 9.198\ntask 11 2 11\n";
 
+/// Request 3/12, where the cap decides: what task 1 runs, F, is longer than the bound of task 3. These and the next ones were searched for, as
+/// the smallest that tell a wrong program apart.
+pub const LONG_ABOVE: &str = "cpus 2\ntask 0.005 0.004 0.005\ntask 0.003 0.001 0.001\ntask 0.003 0.001 0.003\n";
+
+/// The same of task 2, with room for three answers: by the cap, by one of t + 1, and by none.
+pub const LONGER_ABOVE: &str = "cpus 2\ntask 0.004 0.001 0.001\ntask 0.008 0.006 0.008\ntask 0.004 0.001 0.004\n";
+
+/// The same where task 2 runs under a lock, O.
+pub const LONG_LOCK_ABOVE: &str = "cpus 2
+task 0.003 0.001 0.001
+task 0.005 0.004 0.005
+use 1 2 0.002 0.004
+task 0.003 0.001 0.003
+";
+
+/// The same below task 3, L.
+pub const LONG_LOCK_BELOW: &str = "cpus 2
+task 0.004 0.001 0.001
+task 0.004 0.001 0.001
+use 1 1 0.001 0.001
+task 0.004 0.001 0.004
+task 0.006 0.005 0.006
+use 1 2 0.003 0.005
+";
+
+/// The cap is each task's own: two that never let go leave nothing to task 3.
+pub const TWO_ABOVE: &str = "cpus 2\ntask 0.001 0.001 0.001\ntask 0.001 0.001 0.001\ntask 0.002 0.001 0.002\n";
+
+/// It is each workload's own: task 2's O and F, together above t, count both.
+pub const O_AND_F: &str = "cpus 2
+task 0.003 0.001 0.001
+task 0.002 0.002 0.002
+use 1 1 0.001 0.001
+task 0.003 0.001 0.003
+";
+
+/// The same of its S and F.
+pub const S_AND_F: &str = "cpus 2
+task 0.005 0.001 0.001
+task 0.004 0.003 0.003
+use 1 1 0.001 0.001
+task 0.005 0.001 0.005
+use 1 1 0.001 0.001
+";
+
+/// The story of request 3/12, which `story` finds: task 2's code gets shorter.
+pub const STORY: [&str; 2] = [include_str!("../../../examples/before-shortening.txt"), include_str!("../../../examples/shortened.txt")];
+
 /// Times, and what they are in microseconds: rounded down, rounded up.
 pub const SPELLED: &[(&str, u64, u64)] = &[
     // three decimals or fewer: the same either way
@@ -328,6 +376,8 @@ pub fn listings() -> Vec<Vec<u8>> {
     all.push((tasks(32) + "task 10 x 10\n").into_bytes());
     all.push((tasks(32) + "use 1 1 0.1 0.1\n").into_bytes());
     all.extend(decimals().into_iter().map(String::into_bytes));
+    let capped = [LONG_ABOVE, LONGER_ABOVE, LONG_LOCK_ABOVE, LONG_LOCK_BELOW, TWO_ABOVE, O_AND_F, S_AND_F, STORY[0], STORY[1]];
+    all.extend(capped.map(|text| text.as_bytes().to_vec()));
     all.push(largest().into_bytes());
     all.push(longest().into_bytes());
     all.push(slow().into_bytes());

@@ -5,12 +5,15 @@ use std::fmt;
 use std::io::Write;
 use std::process::{Command, Output, Stdio};
 
+use crate::analysis::{quick, verdict_by, By, Verdict};
 use crate::programs::Said;
 use crate::random::Random;
+use crate::table::Table;
 use crate::{cases, generate, listing, report};
 
 const VALID: u64 = 1_500;
 const DAMAGED: u64 = 2_500;
+const LONG_AMONG_SHORT: u64 = 600;
 
 /// What came up: how many listings or tables were compared, and each answer, of which a table gets several.
 pub struct Tally {
@@ -125,6 +128,12 @@ pub fn listings() -> Vec<Vec<u8>> {
         let length = r.within(0, 80);
         all.push((0..length).map(|_| r.next() as u8).collect());
     }
+    // numbers of their own, so that the listings before stay the same ones
+    let mut r = Random::new(4);
+    for _ in 0..LONG_AMONG_SHORT {
+        let table = generate::long_among_short(&mut r);
+        all.push(generate::join(&generate::lines(&mut r, &table)));
+    }
     all
 }
 
@@ -141,8 +150,32 @@ fn traced(listing: &[u8]) -> bool {
     })
 }
 
+/// Request 3/12: whoever had a bound by the uncapped workload keeps one, no larger. Counts what the cap changes.
+fn capped(tally: &mut Tally, table: &Table) -> bool {
+    let before: Vec<Verdict> = (0..table.n as usize).map(|i| verdict_by(table, i, By::Uncapped)).collect();
+    // the report that was compared has held these to the paper's terms
+    let after = quick(table);
+    let bound = |verdict: &Verdict| match verdict {
+        Verdict::Meets(t) => *t,
+        Verdict::Misses => u64::MAX,
+    };
+    let pairs = || before.iter().zip(&after).map(|(old, new)| (bound(old), bound(new)));
+    if let Some(i) = pairs().position(|(old, new)| new > old) {
+        println!("task {} has a worse verdict by the cap, {:?} and not {:?}, in\n{}", i + 1, after[i], before[i], listing::write(table));
+        return false;
+    }
+    tally.compared += 1;
+    if before != after {
+        tally.count("a bound is smaller, or a miss became one".into());
+    }
+    if pairs().any(|(old, new)| old == u64::MAX && new < old) {
+        tally.count("a miss became a bound".into());
+    }
+    true
+}
+
 pub fn reports(program: &str) -> bool {
-    let (mut tally, mut with_decimals) = (Tally::new(), Tally::new());
+    let (mut tally, mut with_decimals, mut by_cap) = (Tally::new(), Tally::new(), Tally::new());
     for listing in listings() {
         let expected = report::text(&listing);
         if !run(program, &listing).is(&expected) {
@@ -155,16 +188,22 @@ pub fn reports(program: &str) -> bool {
             with_decimals.compared += 1;
             with_decimals.count(outcome(&expected));
         }
+        if listing::read(&listing).is_ok_and(|table| !capped(&mut by_cap, &table)) {
+            return false;
+        }
     }
     tally.print(&format!("reports: {} compared", tally.compared));
     with_decimals.print(&format!("of these, {} have a time of four to six decimals", with_decimals.compared));
+    by_cap.print(&format!("the {} accepted, beside the verdicts by the uncapped workload", by_cap.compared));
     let wanted = |refusals: &[u32]| {
         let mut all: Vec<String> = refusals.iter().map(|k| format!("refused {k:>2}")).collect();
         all.extend(["accepted, all meet".into(), "accepted, with a miss".into()]);
         all
     };
     // nothing is read of a listing that gets 1, and no time of one that gets 9
-    tally.covers(&wanted(&[1, 2, 3, 4, 5, 6, 7, 8, 9])) && with_decimals.covers(&wanted(&[2, 3, 4, 5, 6, 7, 8]))
+    tally.covers(&wanted(&[1, 2, 3, 4, 5, 6, 7, 8, 9]))
+        && with_decimals.covers(&wanted(&[2, 3, 4, 5, 6, 7, 8]))
+        && by_cap.covers(&["a bound is smaller, or a miss became one", "a miss became a bound"].map(String::from))
 }
 
 /// Prints a small listing on which the two programs differ: lines are taken out as long as they still do.

@@ -20,6 +20,32 @@ pub fn table(r: &mut Random) -> Table {
     table
 }
 
+/// The same with long tasks among short ones, on two processors or more. The cap of request 3/12 counts only there: where a bound is shorter
+/// than what another task has to run.
+pub fn long_among_short(r: &mut Random) -> Table {
+    let m = *r.pick(&[2, 2, 2, 3, 4, 8]);
+    let n = m as usize + r.within(1, 4) as usize;
+    let locks = *r.pick(&[0, 1, 1, 2, 4]) as usize;
+    let longest = *r.pick(&[12, 40, 400, 3_000, 60_000, 1_000_000, TIME]);
+    let mut table = Table::zero();
+    (table.m, table.n) = (m, n as u64);
+    for slot in 0..n {
+        table.tasks[slot] = if r.one_in(3) { long_task(r, locks, longest) } else { task(r, locks, (longest / 4).max(3), 20) };
+    }
+    table
+}
+
+/// A task that may run for as long as its deadline. Half of them hold one lock for most of it, by many short requests, for which nobody waits
+/// long.
+fn long_task(r: &mut Random, locks: usize, longest: u64) -> Task {
+    let mut task = task(r, 0, longest, 1);
+    if locks > 0 && r.one_in(2) {
+        let ct = r.within(task.c.div_ceil(2), task.c);
+        task.locks[r.next() as usize % locks] = Lock { n: COUNT, c: ct.div_ceil(COUNT), ct };
+    }
+    task
+}
+
 fn task(r: &mut Random, locks: usize, longest: u64, load: u64) -> Task {
     let t = r.within((longest / 10).max(1), longest);
     let d = if r.one_in(3) { t } else { r.within((t / 2).max(1), t) };

@@ -7,10 +7,12 @@
 //!     independent times PROGRAM COMMAND INPUT
 //!                                           the least time of PROGRAM and of COMMAND of this program on INPUT, in microseconds
 //!     independent bench FOLDER              write the benchmark's listings there
+//!     independent story                     the smallest story of request 3/12: a listing, an empty line, and the listing with one task made shorter
 //!     independent compare REPORT PROBE ARCHIVE UNARCHIVE
 //!                                           run them on many listings, tables and cards and compare; exit 1 on a difference
 
 mod analysis;
+mod cap;
 mod card;
 mod cards;
 mod cases;
@@ -24,6 +26,7 @@ mod probe;
 mod programs;
 mod random;
 mod report;
+mod story;
 mod table;
 
 use programs::Said;
@@ -39,7 +42,7 @@ fn main() -> ExitCode {
         ["unarchive"] => say(programs::unarchive(&input())),
         ["rounds"] => {
             let table = listing::read(&input()).expect("an accepted listing");
-            println!("{}", (0..table.n as usize).map(|i| analysis::iterate(&table, i).1).sum::<u64>());
+            println!("{}", (0..table.n as usize).map(|i| analysis::iterate(&table, i, analysis::By::Capped).1).sum::<u64>());
             ExitCode::SUCCESS
         }
         ["times", program, command, path] => {
@@ -50,6 +53,10 @@ fn main() -> ExitCode {
             for (name, text) in cases::benchmark() {
                 std::fs::write(format!("{folder}/{name}"), text).expect("a folder to write to");
             }
+            ExitCode::SUCCESS
+        }
+        ["story"] => {
+            print!("{}", story::find().join("\n"));
             ExitCode::SUCCESS
         }
         ["compare", report, probe, archive, unarchive] => {
@@ -67,7 +74,7 @@ fn main() -> ExitCode {
             }
         }
         _ => {
-            eprintln!("usage: independent report | archive | unarchive | rounds | times PROGRAM COMMAND INPUT | bench FOLDER | compare REPORT PROBE ARCHIVE UNARCHIVE");
+            eprintln!("usage: independent report | archive | unarchive | rounds | times PROGRAM COMMAND INPUT | bench FOLDER | story | compare REPORT PROBE ARCHIVE UNARCHIVE");
             ExitCode::FAILURE
         }
     }

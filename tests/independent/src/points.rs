@@ -1,10 +1,10 @@
 //! The points of the paper and of the requests, by number. They are held against this program first: else it and the proved one could share
 //! a misreading.
 
-use crate::analysis::{demand, terms, verdict, workload, Terms, Verdict};
+use crate::analysis::{demand, terms, uncapped, verdict, verdict_by, workload, By, Terms, Verdict};
 use crate::listing::Round::{Down, Up};
 use crate::table::{Lock, Refusal, Table, Task, TIME};
-use crate::{card, cards, cases, listing, programs, report};
+use crate::{cap, card, cards, cases, listing, programs, report, story};
 
 /// Stops the comparison if a point fails.
 pub fn hold() {
@@ -19,6 +19,8 @@ pub fn hold() {
     longest();
     archived();
     answers();
+    cap::hold();
+    shortened();
     println!("the points of the paper and of the requests hold in this program");
 }
 
@@ -30,19 +32,26 @@ fn case_a() {
     let printed = "task verdict bound_us\n1 meets 3250\n2 meets 4000\n3 meets 14500\n";
     assert_eq!(report::text(cases::CASE_A.as_bytes()), printed);
     let with_deadline = |d: &str| table(&cases::CASE_A.replace("30 6 30", &format!("30 6 {d}")));
-    assert_eq!(verdict(&with_deadline("14.5"), 2), Verdict::Meets(14_500));
-    assert_eq!(verdict(&with_deadline("14.499"), 2), Verdict::Misses);
     let lengths = [6_000, 11_000, 12_500, 13_500, 14_250, 14_500, 14_500];
-    for pair in lengths.windows(2) {
-        assert_eq!(demand(&with_deadline("30"), 2, pair[0]), pair[1]);
+    // request 3/12 leaves it as it was
+    for by in [By::Capped, By::Uncapped] {
+        assert_eq!([0, 1, 2].map(|i| verdict_by(&with_deadline("30"), i, by)), [3_250, 4_000, 14_500].map(Verdict::Meets));
+        assert_eq!(verdict_by(&with_deadline("14.5"), 2, by), Verdict::Meets(14_500));
+        assert_eq!(verdict_by(&with_deadline("14.499"), 2, by), Verdict::Misses);
+        for pair in lengths.windows(2) {
+            assert_eq!(demand(&with_deadline("30"), 2, pair[0], by), pair[1]);
+        }
     }
 }
 
 fn workloads() {
     let task = |t, d| Task { t, c: d, d, ..Task::default() };
-    let early = [0, 4, 5, 7, 8].map(|t| workload(&task(10, 8), t, 3));
-    assert_eq!(early, [0, 3, 3, 5, 6]);
-    assert_eq!([8, 9].map(|x| workload(&task(10, 10), 2, x)), [4, 3]);
+    for by in [workload, uncapped] {
+        assert_eq!([0, 4, 5, 7, 8].map(|t| by(&task(10, 8), t, 3)), [0, 3, 3, 5, 6]);
+    }
+    // the point that request 3/12 has in place of the paper's
+    assert_eq!([8, 9].map(|x| uncapped(&task(10, 10), 2, x)), [4, 3]);
+    assert_eq!([8, 9].map(|x| workload(&task(10, 10), 2, x)), [2, 2]);
 }
 
 fn fields() {
@@ -77,7 +86,7 @@ fn refusals() {
 fn thirds() {
     let table = table(cases::THIRDS);
     let Verdict::Meets(bound) = verdict(&table, 3) else { panic!("task 4 misses") };
-    let Terms { db, s, o, f, l } = terms(&table, 3, bound);
+    let Terms { db, s, o, f, l } = terms(&table, 3, bound, workload);
     assert_eq!((table.m, db, s, o, f, l), (3, 6, 1, 1, 1, 1));
     assert_eq!(bound, table.tasks[3].c + db + s + 1);
 }
@@ -212,4 +221,13 @@ fn answers() {
             assert_eq!(card::write(&table), bytes, "{name}");
         }
     }
+}
+
+/// Request 3/12: the examples are the story that the search finds. Task 2 is made shorter; by the paper's workload task 3 then misses.
+fn shortened() {
+    assert_eq!(story::find(), cases::STORY);
+    let verdicts = |by: By| cases::STORY.map(|text| [0, 1, 2].map(|i| verdict_by(&table(text), i, by)));
+    let [before, after] = [[1_000, 6_000, 4_000], [1_000, 5_000, 4_000]].map(|bounds| bounds.map(Verdict::Meets));
+    assert_eq!(verdicts(By::Capped), [before, after]);
+    assert_eq!(verdicts(By::Uncapped), [before, [after[0], after[1], Verdict::Misses]]);
 }

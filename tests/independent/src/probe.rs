@@ -10,6 +10,7 @@ use crate::table::{Lock, Refusal, Table};
 use crate::{card, cards, edges, generate, listing, report};
 
 const TABLES: u64 = 600;
+const LONG_AMONG_SHORT: u64 = 100;
 const ROWS: usize = 40;
 const OUTPUT: usize = 20_000;
 /// What a request has after its first two words: a table, or a listing or a card of as many bytes at most.
@@ -125,6 +126,8 @@ pub fn compare(program: &str) -> bool {
     let mut for_cards = Random::new(3);
     let mut tables = edges::tables();
     tables.extend((0..TABLES).map(|_| generate::raw_table(&mut r)));
+    let mut for_the_cap = Random::new(6);
+    tables.extend((0..LONG_AMONG_SHORT).map(|_| generate::long_among_short(&mut for_the_cap)));
     for table in tables {
         let n = table.n.min(32) as u32;
         let task = *r.pick(&[0, 1, n / 2 + 1, n, n + 1, u32::MAX]);

@@ -23,7 +23,7 @@ pub fn refused((number, place): Refusal) -> String {
     format!("refused {number} line {place}\n")
 }
 
-fn accepted(verdicts: &[Verdict]) -> String {
+pub fn accepted(verdicts: &[Verdict]) -> String {
     let mut text = String::from("task verdict bound_us\n");
     for (index, verdict) in verdicts.iter().enumerate() {
         let line = match verdict {

@@ -33,24 +33,28 @@ loop-holds c =
 loop2-holds : tie.Need-loop2-holds Inv-loop2 μ-loop2 Inv-loop3 μ-loop3 Inv-loop μ-loop
 loop2-holds c = (search needs, summed-none)
 
-load-requires : tie.Need-load-requires Inv-loop2 μ-loop2 Inv-loop3 μ-loop3 Inv-loop μ-loop
-load-requires c κs =
+uncapped-requires : tie.Need-uncapped-requires Inv-loop2 μ-loop2 Inv-loop3 μ-loop3 Inv-loop μ-loop
+uncapped-requires c κs =
     let l = c .before .before in
     (l .before .before .before .before .wholes-of .ensures .good (l .loop2 .i) (c .before .loop2-test .taken), omega arith)
 
 loop2-again : tie.Need-loop2-again Inv-loop2 μ-loop2 Inv-loop3 μ-loop3 Inv-loop μ-loop
-loop2-again c = (search needs, summed-more (c .before .before .before .loop2 .inv .1) (c .load .ensures))
+loop2-again c =
+    let u = c .before in
+    (search needs, summed-more (omega arith) (u .before .before .before .loop2 .inv .1) (u .uncapped .ensures) (c .add-load .ensures))
 
 loop3-holds : tie.Need-loop3-holds Inv-loop2 μ-loop2 Inv-loop3 μ-loop3 Inv-loop μ-loop
 loop3-holds c = (search needs, summed-none)
 
-load-requires-2 : tie.Need-load-requires-2 Inv-loop2 μ-loop2 Inv-loop3 μ-loop3 Inv-loop μ-loop
-load-requires-2 c κs =
+uncapped-requires-2 : tie.Need-uncapped-requires-2 Inv-loop2 μ-loop2 Inv-loop3 μ-loop3 Inv-loop μ-loop
+uncapped-requires-2 c κs =
     let l = c .before .before in
     (l .before .before .before .before .before .divided-of .ensures .good (l .loop3 .j) (c .before .loop3-test .taken), omega arith)
 
 loop3-again : tie.Need-loop3-again Inv-loop2 μ-loop2 Inv-loop3 μ-loop3 Inv-loop μ-loop
-loop3-again c = (search needs, summed-more (c .before .before .before .loop3 .inv .1) (c .load2 .ensures))
+loop3-again c =
+    let u = c .before in
+    (search needs, summed-more (omega arith) (u .before .before .before .loop3 .inv .1) (u .uncapped2 .ensures) (c .add-load2 .ensures))
 
 -- what the round works out is the demand
 round : (c : tie.After-loop3 Inv-loop2 μ-loop2 Inv-loop3 μ-loop3 Inv-loop μ-loop)
@@ -100,16 +104,16 @@ iterate-spec =
     loop2-holds
     (λ c. search needs)
     (λ c. search needs)
-    load-requires
-    (λ c. search needs)
+    uncapped-requires
+    (λ c κs. search needs)
     (λ c. search needs)
     (λ c. search needs)
     loop2-again
     loop3-holds
     (λ c. search needs)
     (λ c. search needs)
-    load-requires-2
-    (λ c. search needs)
+    uncapped-requires-2
+    (λ c κs. search needs)
     (λ c. search needs)
     (λ c. search needs)
     loop3-again

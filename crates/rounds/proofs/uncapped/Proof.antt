@@ -1,12 +1,12 @@
--- `rounds::load` meets its contract. The code is the definition, at the quotient that `quot` ensures. Assumes nothing.
-use mathlib.Core.Path.{_≡_, _∙_}
+-- `rounds::uncapped` meets its contract. The code is the definition, at the quotient that `quot` ensures. Assumes nothing.
+use mathlib.Core.Path.{_≡_}
 use Prim.Native.Nat.{_+_, _*_, _≤_}
 use native.Mathlib.Omega.{arith}
 use borrow.Author.Needs.{needs}
-use Rattle.rounds.specs.Parts.{partLoad}
+use Rattle.rounds.specs.Parts.{partUncapped}
 use Rattle.rounds.proofs.QuotLaws.{periods-fit, units-fit, jobs-by, jobs-fit}
-use Rattle.rounds.proofs.load.Statement.{statement}
-use Rattle.rounds.proofs.load.Tie as tie
+use Rattle.rounds.proofs.uncapped.Statement.{statement}
+use Rattle.rounds.proofs.uncapped.Tie as tie
 
 -- the two products
 fits : (c : tie.After-quot)
@@ -18,8 +18,8 @@ fits c =
     let h = b .pre .0 .units-period in
     (units-fit _ _ _ _ (c .quot .ensures) h, periods-fit _ _ _ _ (c .quot .ensures) h)
 
-mul-wide : tie.Need-mul-wide
-mul-wide c = omega (arith, fits (c .before))
+mul-result : tie.Need-mul-result
+mul-result c = omega (arith, fits (c .before))
 
 mul-least : tie.Need-mul-least
 mul-least c = omega (arith, fits (c .before .before))
@@ -31,7 +31,7 @@ sub-least c = fits (c .before .before) .1
 is : (c : tie.After-least)
     → let q = c .before .before .before .quot in
     let b = c .before .before .before .before .before in
-    let load = partLoad (b .args .e) (b .args .t) in
+    let load = partUncapped (b .args .e) (b .args .t) in
     (q .result * b .args .e .units + c .least .result ≡ load) × (load ≤ 20_000_000)
 is c =
     let q = c .before .before .before .quot in
@@ -43,24 +43,21 @@ is c =
       omega (arith, jobs-fit (e .period) (e .units) a h, b .pre .0 .near, b .pre .1),
     )
 
-add-wide : tie.Need-add-wide
-add-wide c = omega (arith, is c)
+add-result : tie.Need-add-result
+add-result c = omega (arith, is c)
 
 returns : tie.Need-returns
-returns c =
-    let w = c .wide .ensures in
-    record { is = w ∙ is (c .before) .0; fits = omega (arith, w, is (c .before)) }
+returns c = record { is = is c .0; fits = omega (arith, is c) }
 
-pub load-spec : {M : Type 1} → statement M
-load-spec =
+pub uncapped-spec : {M : Type 1} → statement M
+uncapped-spec =
     tie.close
     (tie.spec
     (λ c. search needs)
     (λ c κs. search needs)
-    mul-wide
+    mul-result
     mul-least
     sub-least
     (λ c κs. search needs)
-    add-wide
-    (λ c κs. search needs)
+    add-result
     returns)

@@ -1,0 +1,169 @@
+//! Request 3/12, by number: the laws of the new workload, and wrong programs, each with a listing that tells it apart.
+
+use crate::analysis::{demand, quick, terms, uncapped, workload, By, Terms, Verdict};
+use crate::random::Random;
+use crate::table::{Table, Task};
+use crate::{cases, generate, listing, report};
+
+/// How far the laws are tried: every period and every length up to these.
+const PERIODS: u64 = 12;
+const LENGTHS: u64 = 40;
+/// How many tables are made for what no listing shows, and the deadlines of those that are tried.
+const TABLES: u64 = 500;
+const SHORT: u64 = 400;
+
+/// Stops the comparison if a law fails, or a wrong program is not told apart.
+pub fn hold() {
+    laws();
+    falls();
+    WRONG.iter().for_each(told_apart);
+    not_told_apart();
+}
+
+fn task(t: u64, d: u64) -> Task {
+    Task { t, c: d, d, ..Task::default() }
+}
+
+/// For every small T, D, x and t: never above t nor above the paper's, and it rises with t, with x, and as T gets shorter.
+fn laws() {
+    for (period, d) in (1..=PERIODS).flat_map(|period| (1..=period).map(move |d| (period, d))) {
+        for (x, t) in (0..=d).flat_map(|x| (0..=LENGTHS).map(move |t| (x, t))) {
+            let here = workload(&task(period, d), t, x);
+            let at = format!("T {period}, D {d}, x {x}, t {t}");
+            assert!(here <= t && here <= uncapped(&task(period, d), t, x), "above t or the paper's: {at}");
+            assert!(here <= workload(&task(period, d), t + 1, x), "falls as t grows: {at}");
+            assert!(x == d || here <= workload(&task(period, d), t, x + 1), "falls as x grows: {at}");
+            assert!(d == period || here <= workload(&task(period - 1, d), t, x), "falls as T gets shorter: {at}");
+        }
+    }
+}
+
+/// The paper's workload falls as x grows, so that trying it would have shown it.
+fn falls() {
+    let fallen = |x: u64, t: u64| uncapped(&task(10, 10), t, x + 1) < uncapped(&task(10, 10), t, x);
+    assert!((1..10).any(|x| (1..=LENGTHS).any(|t| fallen(x, t))));
+}
+
+/// What some program takes a task's demand at a length to be.
+type Demand = fn(&Table, usize, u64) -> u64;
+
+/// A wrong program, with a listing that tells it apart: the one line that it prints there in place of the right one.
+struct Wrong {
+    name: &'static str,
+    demand: Demand,
+    listing: &'static str,
+    right: &'static str,
+    printed: &'static str,
+}
+
+const WRONG: &[Wrong] = &[
+    Wrong { name: "no cap", demand: left_out, listing: cases::LONG_ABOVE, right: "3 meets 3", printed: "3 misses -" },
+    Wrong { name: "no cap", demand: left_out, listing: cases::LONGER_ABOVE, right: "3 meets 3", printed: "3 misses -" },
+    Wrong { name: "a cap of t + 1", demand: one_more, listing: cases::LONGER_ABOVE, right: "3 meets 3", printed: "3 meets 4" },
+    Wrong { name: "a cap on S alone", demand: whole_only, listing: cases::LONG_ABOVE, right: "3 meets 3", printed: "3 misses -" },
+    Wrong { name: "no cap on O", demand: not_o, listing: cases::LONG_LOCK_ABOVE, right: "3 meets 3", printed: "3 misses -" },
+    Wrong { name: "no cap on F", demand: not_f, listing: cases::LONG_ABOVE, right: "3 meets 3", printed: "3 misses -" },
+    Wrong { name: "no cap on L", demand: not_l, listing: cases::LONG_LOCK_BELOW, right: "3 meets 4", printed: "3 misses -" },
+    Wrong { name: "a cap on the sum over the tasks", demand: over_the_tasks, listing: cases::TWO_ABOVE, right: "3 misses -", printed: "3 meets 2" },
+    Wrong { name: "a cap on a task's O and F together", demand: o_and_f, listing: cases::O_AND_F, right: "3 misses -", printed: "3 meets 3" },
+    Wrong { name: "a cap on a task's S, O and F together", demand: s_o_and_f, listing: cases::S_AND_F, right: "3 misses -", printed: "3 meets 5" },
+    Wrong { name: "a cap on the quotient", demand: quotient, listing: cases::LONG_ABOVE, right: "3 meets 3", printed: "3 misses -" },
+    Wrong { name: "a cap on each quotient", demand: each_quotient, listing: cases::LONG_ABOVE, right: "3 meets 3", printed: "3 misses -" },
+];
+
+/// The report by some demand, every length tried.
+fn printed(table: &Table, demand: Demand) -> String {
+    let verdict = |i: usize| (1..=table.tasks[i].d).find(|&t| demand(table, i, t) <= t).map_or(Verdict::Misses, Verdict::Meets);
+    report::accepted(&(0..table.n as usize).map(verdict).collect::<Vec<_>>())
+}
+
+fn told_apart(wrong: &Wrong) {
+    let table = listing::read(wrong.listing.as_bytes()).expect("an accepted listing");
+    let (right, printed) = (report::text(wrong.listing.as_bytes()), printed(&table, wrong.demand));
+    let unlike: Vec<(&str, &str)> = right.lines().zip(printed.lines()).filter(|(a, b)| a != b).collect();
+    assert_eq!(unlike, [(wrong.right, wrong.printed)], "{} on\n{}", wrong.name, wrong.listing);
+}
+
+/// A program that caps O, F and L and not S works out other demands, and yet no listing tells it apart. A workload of S that the cap lowers is
+/// t with it and more without; it counts whole, beside a C of 1 or more, so that either way the demand is above t and t is no bound.
+fn not_told_apart() {
+    let case_a = listing::read(cases::CASE_A.as_bytes()).expect("an accepted listing");
+    assert_eq!([demand(&case_a, 2, 100, By::Capped), divided_only(&case_a, 2, 100)], [6_200, 6_600]);
+    let mut r = Random::new(5);
+    let tables = (0..TABLES).map(|_| generate::long_among_short(&mut r));
+    for table in tables.filter(|table| table.used().iter().all(|task| task.d <= SHORT)) {
+        assert_eq!(printed(&table, divided_only), report::accepted(&quick(&table)), "{}", listing::write(&table));
+    }
+}
+
+fn left_out(table: &Table, i: usize, t: u64) -> u64 {
+    terms(table, i, t, uncapped).demand(table, i)
+}
+
+fn one_more(table: &Table, i: usize, t: u64) -> u64 {
+    terms(table, i, t, |task, t, x| uncapped(task, t, x).min(t + 1)).demand(table, i)
+}
+
+/// S, which counts whole, is capped; what is divided is not.
+fn whole_only(table: &Table, i: usize, t: u64) -> u64 {
+    let Terms { s, .. } = terms(table, i, t, workload);
+    Terms { s, ..terms(table, i, t, uncapped) }.demand(table, i)
+}
+
+fn divided_only(table: &Table, i: usize, t: u64) -> u64 {
+    let Terms { s, .. } = terms(table, i, t, uncapped);
+    Terms { s, ..terms(table, i, t, workload) }.demand(table, i)
+}
+
+fn not_o(table: &Table, i: usize, t: u64) -> u64 {
+    let Terms { o, .. } = terms(table, i, t, uncapped);
+    Terms { o, ..terms(table, i, t, workload) }.demand(table, i)
+}
+
+fn not_f(table: &Table, i: usize, t: u64) -> u64 {
+    let Terms { f, .. } = terms(table, i, t, uncapped);
+    Terms { f, ..terms(table, i, t, workload) }.demand(table, i)
+}
+
+fn not_l(table: &Table, i: usize, t: u64) -> u64 {
+    let Terms { l, .. } = terms(table, i, t, uncapped);
+    Terms { l, ..terms(table, i, t, workload) }.demand(table, i)
+}
+
+/// Each letter at most t, and not each task's part of it.
+fn over_the_tasks(table: &Table, i: usize, t: u64) -> u64 {
+    let Terms { db, s, o, f, l } = terms(table, i, t, uncapped);
+    Terms { db, s: s.min(t), o: o.min(t), f: f.min(t), l: l.min(t) }.demand(table, i)
+}
+
+/// What one task brings in by itself.
+fn of_one(table: &Table, i: usize, t: u64, one: &Task) -> Terms {
+    terms(table, i, t, |task, t, x| if std::ptr::eq(task, one) { workload(task, t, x) } else { 0 })
+}
+
+fn o_and_f(table: &Table, i: usize, t: u64) -> u64 {
+    let each = table.used().iter().map(|one| of_one(table, i, t, one));
+    let f = each.map(|Terms { o, f, .. }| (o + f).min(t)).sum();
+    Terms { o: 0, f, ..terms(table, i, t, workload) }.demand(table, i)
+}
+
+/// What S leaves of t is all that O and F of the same task get.
+fn s_o_and_f(table: &Table, i: usize, t: u64) -> u64 {
+    let each = table.used().iter().map(|one| of_one(table, i, t, one));
+    let f = each.map(|Terms { s, o, f, .. }| (o + f).min(t - s)).sum();
+    Terms { o: 0, f, ..terms(table, i, t, workload) }.demand(table, i)
+}
+
+/// The quotient is at most t, and not what is divided.
+fn quotient(table: &Table, i: usize, t: u64) -> u64 {
+    let whole = Terms { o: 0, f: 0, l: 0, ..terms(table, i, t, workload) }.demand(table, i);
+    let all = terms(table, i, t, uncapped);
+    let rest = all.o + all.f + all.l;
+    whole + if (i as u64) < table.m { 0 } else { rest.div_ceil(table.m).min(t) }
+}
+
+/// Each workload is at most t once it is divided: at most m times t before.
+fn each_quotient(table: &Table, i: usize, t: u64) -> u64 {
+    let Terms { s, .. } = terms(table, i, t, workload);
+    Terms { s, ..terms(table, i, t, |task, t, x| uncapped(task, t, x).min(table.m * t)) }.demand(table, i)
+}
