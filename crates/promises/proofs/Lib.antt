@@ -1,5 +1,5 @@
---   Demand1Holds, Demand2Holds, Demand3Holds, DecimalsHold, ArchivesHold, PointsHold   each promise, by citing the crate that did the work
---   HarderByTest                                                                       a view made harder, by one test that computes
+--   Demand1Holds, Demand2Holds, Demand3Holds, DecimalsHold, ArchivesHold, PointsHold, WindowHolds   each promise, by citing the crate that did the work
+--   HarderByTest                                                                                    a view made harder, by one test that computes
 pub mod Demand1Holds
 pub mod Demand2Holds
 pub mod HarderByTest
@@ -7,3 +7,4 @@ pub mod Demand3Holds
 pub mod DecimalsHold
 pub mod ArchivesHold
 pub mod PointsHold
+pub mod WindowHolds

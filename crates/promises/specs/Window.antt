@@ -1,0 +1,66 @@
+-- Request 3/12 of document 02: no task runs more than t in a window of t. What was read before it, document 01's workload, is `uncapped`.
+use Prim.Native.Nat.{ℕ, _≤_, _<_, min}
+use Prim.Native.String.{String}
+use mathlib.Core.Path.{_≡_}
+use Rattle.basics.specs.Text.{bytes}
+use Rattle.table.specs.declared.Table.{Table}
+use Rattle.table.specs.declared.Checked.the-variants.{Fine}
+use Rattle.table.specs.Rules.{tableFault}
+use Rattle.listing.specs.Read.{readListing}
+use Rattle.theory.specs.declared.Verdict.{Verdict}
+use Rattle.theory.specs.declared.Verdict.the-variants.{Meets, Misses}
+use Rattle.theory.specs.Work.{uncapped, workload}
+use Rattle.theory.specs.View.{level}
+use Rattle.theory.specs.Demand.{loadOf, demandWith}
+use Rattle.theory.specs.Verdict.{Least, verdictOf}
+use Rattle.theory.specs.Tables.{viewOf}
+use Rattle.analysis.specs.declared.Answer.the-variants.{Known}
+use Rattle.analysis.specs.Answers.{boundOf}
+use Rattle.page.specs.Report.{reportText}
+use Rattle.promises.specs.Demand2.{demandIn, runIn, deadlineIn}
+
+-- the demand of a task by document 01's workload
+abbrev pub oldDemandIn : Table → ℕ → ℕ → ℕ
+oldDemandIn t i = demandWith uncapped (viewOf t) (level i)
+
+pub record Window : Type 0 where
+  -- "One task cannot run more than t in a window of t."
+  pub most : (T D t x : ℕ) → workload T D t x ≤ t
+  -- "From now on the workload is the smaller of t and the old one." So it is never above the old one
+  pub smaller : (T D t x : ℕ) → workload T D t x ≡ min t (uncapped T D t x)
+  pub less : (T D t x : ℕ) → workload T D t x ≤ uncapped T D t x
+  -- it rises with t, and as T gets shorter
+  pub rises : (T T' D t t' x : ℕ) → 0 < T' → T' ≤ T → t ≤ t' → workload T D t x ≤ workload T' D t' x
+  -- the old one: "with T and D 10 and t 2, it falls from 4 to 3 as x goes from 8 to 9"
+  pub fell : (uncapped 10 10 2 8 ≡ 4) × (uncapped 10 10 2 9 ≡ 3)
+  -- "At t 2 both x 8 and x 9 now give 2": it never falls as x grows up to D,
+  pub level-now : (workload 10 10 2 8 ≡ 2) × (workload 10 10 2 9 ≡ 2)
+  pub grows : (T D t x x' : ℕ) → 0 < T → D ≤ T → x ≤ x' → x' ≤ D → workload T D t x ≤ workload T D t x'
+  -- and so, of each task of an accepted table, "never falls as x grows up to C"
+  pub grows-to-run : (t : Table) (i : ℕ) → tableFault t ≡ Fine → i < t .n → (s x x' : ℕ) → x ≤ x' → x' ≤ runIn t i
+      → loadOf workload (viewOf t) s (level i) x ≤ loadOf workload (viewOf t) s (level i) x'
+  -- "Demand 2 reads it from here on"
+  pub read : (t : Table) (i s : ℕ) → demandIn t i s ≡ demandWith workload (viewOf t) (level i) s
+  -- "every task that had a bound keeps one, and no bound may become larger than before"
+  pub keeps : (t : Table) (i : ℕ) → tableFault t ≡ Fine → i < t .n → (u : ℕ) → Least (oldDemandIn t i) (deadlineIn t i) u
+      → (w : ℕ) × (boundOf t (level i) ≡ Known (Meets w)) × (w ≤ u)
+
+-- ---- the developer's story, computed: examples/before-shortening.txt, and the same with the second task shortened from 6 ms to 5, examples/shortened.txt
+
+abbrev pub before : String
+before = "cpus 2\ntask 3 1 3\ntask 6 6 6\ntask 4 1 4\n"
+
+abbrev pub shortened : String
+shortened = "cpus 2\ntask 3 1 3\ntask 6 5 6\ntask 4 1 4\n"
+
+-- the verdict on the third task of a listing by document 01's workload
+abbrev pub oldVerdict : String → Verdict
+oldVerdict s = let t = readListing (bytes s) .table in verdictOf (oldDemandIn t 2) (deadlineIn t 2)
+
+pub record Story : Type 0 where
+  -- "A developer shortened a task and another task's verdict went from meets to misses"
+  pub met : oldVerdict before ≡ Meets 4_000
+  pub missed : oldVerdict shortened ≡ Misses
+  -- now it meets in both
+  pub meets : reportText (bytes before) ≡ bytes "task verdict bound_us\n1 meets 1000\n2 meets 6000\n3 meets 4000\n"
+  pub still-meets : reportText (bytes shortened) ≡ bytes "task verdict bound_us\n1 meets 1000\n2 meets 5000\n3 meets 4000\n"
