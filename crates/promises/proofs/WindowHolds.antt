@@ -30,7 +30,7 @@ use Rattle.analysis.specs.Answers.{boundOf}
 use Rattle.analysis.proofs.ByIterates.{fine-runs, bound-known, iterate-meets}
 use Rattle.page.specs.Report.{verdictText, rowText}
 use Rattle.promises.specs.Demand2.{runIn, deadlineIn}
-use Rattle.promises.specs.Window.{oldDemandIn, Window, before, shortened, Story}
+use Rattle.promises.specs.Window.{oldDemandIn, Window, before, shortened, relaxed, Story}
 use Rattle.promises.proofs.PointsHold.{tableIn, three}
 
 keeps : (t : Table) (i : ℕ) → tableFault t ≡ Fine → i < t .n → (u : ℕ) → Least (oldDemandIn t i) (deadlineIn t i) u
@@ -84,4 +84,9 @@ story =
           (iterate-meets (tableIn shortened) 0 0 1_000 refl (lit< tt) refl tt tt tt)
           (iterate-meets (tableIn shortened) 1 0 5_000 refl (lit< tt) refl tt tt tt)
           (iterate-meets (tableIn shortened) 2 12 4_000 refl (lit< tt) refl tt tt tt);
+      met-late = old-meets (tableIn relaxed) 13 5_000 refl tt refl tt tt tt;
+      meets-earlier = three relaxed (Meets 1_000) (Meets 5_000) (Meets 4_000) refl refl
+          (iterate-meets (tableIn relaxed) 0 0 1_000 refl (lit< tt) refl tt tt tt)
+          (iterate-meets (tableIn relaxed) 1 0 5_000 refl (lit< tt) refl tt tt tt)
+          (iterate-meets (tableIn relaxed) 2 12 4_000 refl (lit< tt) refl tt tt tt);
     }

@@ -53,6 +53,10 @@ before = "cpus 2\ntask 3 1 3\ntask 6 6 6\ntask 4 1 4\n"
 abbrev pub shortened : String
 shortened = "cpus 2\ntask 3 1 3\ntask 6 5 6\ntask 4 1 4\n"
 
+-- and this with more time for the third task
+abbrev pub relaxed : String
+relaxed = "cpus 2\ntask 3 1 3\ntask 6 5 6\ntask 5 1 5\n"
+
 -- the verdict on the third task of a listing by document 01's workload
 abbrev pub oldVerdict : String → Verdict
 oldVerdict s = let t = readListing (bytes s) .table in verdictOf (oldDemandIn t 2) (deadlineIn t 2)
@@ -64,3 +68,6 @@ pub record Story : Type 0 where
   -- now it meets in both
   pub meets : reportText (bytes before) ≡ bytes "task verdict bound_us\n1 meets 1000\n2 meets 6000\n3 meets 4000\n"
   pub still-meets : reportText (bytes shortened) ≡ bytes "task verdict bound_us\n1 meets 1000\n2 meets 5000\n3 meets 4000\n"
+  -- and a bound that is smaller than before
+  pub met-late : oldVerdict relaxed ≡ Meets 5_000
+  pub meets-earlier : reportText (bytes relaxed) ≡ bytes "task verdict bound_us\n1 meets 1000\n2 meets 5000\n3 meets 4000\n"

@@ -139,7 +139,7 @@ fn uncapped(e: Part, t: u32) -> u32
 }
 
 // A sum and one workload more: no task runs more than t in a window of t. The sum is here too, so that what is capped, each workload or all
-// of them, is decided in one place.
+// of them, is decided in one place. Small numbers are asked for so that a wrong program fails on what it answers and not on an overflow.
 fn add_load(sum: u64, load: u32, t: u32) -> u64
     requires { ⌜ (sum ≤ maxSum) × (load ≤ maxSpan) × (t ≤ maxSpan) ⌝ }
     ensures { λ r. ⌜ r ≡ sum + min t load ⌝ }

@@ -54,5 +54,6 @@ unfoldable pub demandWith : Load → View → Level → ℕ → ℕ
 demandWith W v i t =
     v .C i + DB v i + S W v i t + pick (leb (i .0) (v .cpus)) 0 (quotient (O W v i t) (F W v i t) (L W v i t) (v .cpus))
 
+-- with the workload that is read: since request 3/12, that of at most t
 abbrev pub demandOf : View → Level → ℕ → ℕ
 demandOf v i t = demandWith workload v i t
