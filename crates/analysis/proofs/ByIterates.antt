@@ -12,9 +12,10 @@ use Rattle.table.proofs.Acceptance.{fine-accepted}
 use Rattle.theory.specs.declared.Verdict.the-variants.{Meets, Misses}
 use Rattle.theory.specs.Work.{workload}
 use Rattle.theory.specs.View.{level}
-use Rattle.theory.specs.Demand.{demandOf}
+use Rattle.theory.specs.Demand.{Load, demandWith, demandOf}
+use Rattle.theory.specs.Verdict.{verdictOf}
 use Rattle.theory.proofs.VerdictLaws.{Rises, climb, meets-by, misses-by}
-use Rattle.theory.proofs.DemandLaws.{Runs, demand-start, demand-rises}
+use Rattle.theory.proofs.DemandLaws.{Runs, NoMore, demand-start, demand-rises}
 use Rattle.theory.proofs.WorkLaws.{workload-rises}
 use Rattle.analysis.specs.declared.Answer.the-variants.{Known}
 use Rattle.theory.specs.Tables.{viewOf, verdictIn}
@@ -26,20 +27,29 @@ fine-runs t e =
     let a = fine-accepted t e in
     record { cpus = a .cpus-least; T = λ l h. let g = a .task l h .times in omega arith }
 
-pub demand-up : (t : Table) → tableFault t ≡ Fine → (i : ℕ) → i < t .n → Rises (demandOf (viewOf t) (level i))
-demand-up t e i h = demand-rises workload workload-rises (viewOf t) (fine-runs t e) i h
+-- by any workload that rises: the kth iterate covers its demand, or is past the deadline
+module _ (W : Load) (rising : NoMore W W) (t : Table) (i k u : ℕ) (e : tableFault t ≡ Fine) (h : i < t .n)
+    (c : climb (demandWith W (viewOf t) (level i)) k (viewOf t .C (level i)) ≡ u) where
+  up : Rises (demandWith W (viewOf t) (level i))
+  up = demand-rises W rising (viewOf t) (fine-runs t e) i h
 
+  pub meets-with : T (leb 1 u) → T (leb u (viewOf t .D (level i))) → T (leb (demandWith W (viewOf t) (level i) u) u)
+      → verdictOf (demandWith W (viewOf t) (level i)) (viewOf t .D (level i)) ≡ Meets u
+  meets-with a b d = meets-by _ _ _ k u up (demand-start W (viewOf t) (level i)) c a b d
+
+  pub misses-with : T (ltb (viewOf t .D (level i)) u) → verdictOf (demandWith W (viewOf t) (level i)) (viewOf t .D (level i)) ≡ Misses
+  misses-with a = misses-by _ _ _ k u up (demand-start W (viewOf t) (level i)) c a
+
+-- by the one that is read
 module _ (t : Table) (i k u : ℕ) (e : tableFault t ≡ Fine) (h : i < t .n)
     (c : climb (demandOf (viewOf t) (level i)) k (viewOf t .C (level i)) ≡ u) where
-  -- the kth iterate covers its demand
   pub iterate-meets : T (leb 1 u) → T (leb u (viewOf t .D (level i))) → T (leb (demandOf (viewOf t) (level i) u) u) → verdictIn t (level i) ≡ Meets u
   unfolding verdictIn
-  iterate-meets a b d = meets-by _ _ _ k u (demand-up t e i h) (demand-start workload (viewOf t) (level i)) c a b d
+  iterate-meets = meets-with workload workload-rises t i k u e h c
 
-  -- the kth iterate is past the deadline
   pub iterate-misses : T (ltb (viewOf t .D (level i)) u) → verdictIn t (level i) ≡ Misses
   unfolding verdictIn
-  iterate-misses a = misses-by _ _ _ k u (demand-up t e i h) (demand-start workload (viewOf t) (level i)) c a
+  iterate-misses = misses-with workload workload-rises t i k u e h c
 
 -- `bound` answers the verdict on each task that there is
 pub bound-known : (t : Table) (i : ℕ) → tableFault t ≡ Fine → i < t .n → boundOf t (level i) ≡ Known (verdictIn t (level i))

@@ -28,19 +28,7 @@ use Rattle.analysis.proofs.ByIterates.{iterate-meets, iterate-misses}
 use Rattle.page.specs.Report.{verdictText, rowText, pageText, reportText}
 use Rattle.page.proofs.Reports.{report-accepted}
 use Rattle.promises.specs.Points.{Holds, All, none, _and_, points}
-
--- the table that a listing is read as
-abbrev pub tableIn : String → Table
-tableIn s = readListing (bytes s) .table
-
--- the report on a listing of three tasks, by their verdicts
-pub three : (s : String) (a b c : Verdict) → readListing (bytes s) .answer ≡ Fine → tableIn s .n ≡ 3
-    → verdictIn (tableIn s) (level 0) ≡ a → verdictIn (tableIn s) (level 1) ≡ b → verdictIn (tableIn s) (level 2) ≡ c
-    → reportText (bytes s) ≡ bytes "task verdict bound_us\n" ++ ((rowText 1 a ++ rowText 2 b) ++ rowText 3 c)
-unfolding pageText joinTo
-three s a b c e n p q r =
-    report-accepted (bytes s) (tableIn s) (λ j. record { answer = e j; table = tableIn s })
-    ∙ rw (n, p, q, r)
+use Rattle.promises.proofs.ThreeTasks.{tableIn, three}
 
 pub points-hold : All points
 unfolding Holds points sumTo maxTo firstTo emptyTask emptyTable firstFault timesInRange timesInOrder timesFault isUnused usedInRange pairInRange totalsFit pairFault pairsFault taskFault tasksFault tableFault rounded fraction timeField countField width countText fieldCount cpusLine taskLine useLine lineSays pastAfter newTask tableAfter readEnd readLines readListing uncapped workload jobs ceilDiv ceiling sharedCT otherCT allCT highCT DB S O F L demandWith climb verdictText rowText

@@ -4,8 +4,8 @@
 --   Demand3   a table made harder never gives a smaller bound
 --   Decimals  request 1/12: which fields are times of up to six decimals, and on which side of what was typed each figure lies
 --   Archives  request 2/12: writing and reading an archive undo each other, one archive for one table, and a changed byte is noticed
---   Window    request 3/12: no task runs more than t in a window of t, the workload never falls as x grows, and every bound is kept or smaller
---   Points    the paper's points marked P
+--   Window    request 3/12: no workload is more than t in a window of t, none falls as x grows, and every bound is kept or smaller
+--   Points    the paper's points marked P, two of them as request 3/12 has them
 --   Words     what these are made of
 pub mod Words
 pub mod Demand1

@@ -1,4 +1,4 @@
--- The paper's points marked P, every one: one list, one statement over it.
+-- The paper's points marked P, every one, two of them as request 3/12 has them: one list, one statement over it.
 use Prim.Native.Nat.{ℕ}
 use Prim.Native.String.{String}
 use mathlib.Core.Path.{_≡_}

@@ -1,4 +1,5 @@
--- Request 3/12 of document 02: no task runs more than t in a window of t. What was read before it, document 01's workload, is `uncapped`.
+-- Request 3/12 of document 02: no workload is more than t in a window of t. Each by itself: S, O and F of one task together may be, and so may the sum over tasks.
+-- What was read before it, document 01's workload, is `uncapped`.
 use Prim.Native.Nat.{ℕ, _≤_, _<_, min}
 use Prim.Native.String.{String}
 use mathlib.Core.Path.{_≡_}
@@ -20,8 +21,8 @@ use Rattle.page.specs.Report.{reportText}
 use Rattle.promises.specs.Demand2.{demandIn, runIn, deadlineIn}
 
 -- the demand of a task by document 01's workload
-abbrev pub oldDemandIn : Table → ℕ → ℕ → ℕ
-oldDemandIn t i = demandWith uncapped (viewOf t) (level i)
+abbrev pub uncappedDemandIn : Table → ℕ → ℕ → ℕ
+uncappedDemandIn t i = demandWith uncapped (viewOf t) (level i)
 
 pub record Window : Type 0 where
   -- "One task cannot run more than t in a window of t."
@@ -33,8 +34,7 @@ pub record Window : Type 0 where
   pub rises : (T T' D t t' x : ℕ) → 0 < T' → T' ≤ T → t ≤ t' → workload T D t x ≤ workload T' D t' x
   -- the old one: "with T and D 10 and t 2, it falls from 4 to 3 as x goes from 8 to 9"
   pub fell : (uncapped 10 10 2 8 ≡ 4) × (uncapped 10 10 2 9 ≡ 3)
-  -- "At t 2 both x 8 and x 9 now give 2": it never falls as x grows up to D,
-  pub level-now : (workload 10 10 2 8 ≡ 2) × (workload 10 10 2 9 ≡ 2)
+  -- the new one never falls as x grows up to D (that x 8 and x 9 now give 2 is in `Points`),
   pub grows : (T D t x x' : ℕ) → 0 < T → D ≤ T → x ≤ x' → x' ≤ D → workload T D t x ≤ workload T D t x'
   -- and so, of each task of an accepted table, "never falls as x grows up to C"
   pub grows-to-run : (t : Table) (i : ℕ) → tableFault t ≡ Fine → i < t .n → (s x x' : ℕ) → x ≤ x' → x' ≤ runIn t i
@@ -42,7 +42,7 @@ pub record Window : Type 0 where
   -- "Demand 2 reads it from here on"
   pub read : (t : Table) (i s : ℕ) → demandIn t i s ≡ demandWith workload (viewOf t) (level i) s
   -- "every task that had a bound keeps one, and no bound may become larger than before"
-  pub keeps : (t : Table) (i : ℕ) → tableFault t ≡ Fine → i < t .n → (u : ℕ) → Least (oldDemandIn t i) (deadlineIn t i) u
+  pub keeps : (t : Table) (i : ℕ) → tableFault t ≡ Fine → i < t .n → (u : ℕ) → Least (uncappedDemandIn t i) (deadlineIn t i) u
       → (w : ℕ) × (boundOf t (level i) ≡ Known (Meets w)) × (w ≤ u)
 
 -- ---- the developer's story, computed: examples/before-shortening.txt, and the same with the second task shortened from 6 ms to 5, examples/shortened.txt
@@ -58,16 +58,16 @@ abbrev pub relaxed : String
 relaxed = "cpus 2\ntask 3 1 3\ntask 6 5 6\ntask 5 1 5\n"
 
 -- the verdict on the third task of a listing by document 01's workload
-abbrev pub oldVerdict : String → Verdict
-oldVerdict s = let t = readListing (bytes s) .table in verdictOf (oldDemandIn t 2) (deadlineIn t 2)
+abbrev pub thirdUncapped : String → Verdict
+thirdUncapped s = let t = readListing (bytes s) .table in verdictOf (uncappedDemandIn t 2) (deadlineIn t 2)
 
 pub record Story : Type 0 where
   -- "A developer shortened a task and another task's verdict went from meets to misses"
-  pub met : oldVerdict before ≡ Meets 4_000
-  pub missed : oldVerdict shortened ≡ Misses
+  pub met : thirdUncapped before ≡ Meets 4_000
+  pub missed : thirdUncapped shortened ≡ Misses
   -- now it meets in both
   pub meets : reportText (bytes before) ≡ bytes "task verdict bound_us\n1 meets 1000\n2 meets 6000\n3 meets 4000\n"
   pub still-meets : reportText (bytes shortened) ≡ bytes "task verdict bound_us\n1 meets 1000\n2 meets 5000\n3 meets 4000\n"
   -- and a bound that is smaller than before
-  pub met-late : oldVerdict relaxed ≡ Meets 5_000
+  pub met-late : thirdUncapped relaxed ≡ Meets 5_000
   pub meets-earlier : reportText (bytes relaxed) ≡ bytes "task verdict bound_us\n1 meets 1000\n2 meets 5000\n3 meets 4000\n"

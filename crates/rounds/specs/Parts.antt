@@ -16,7 +16,7 @@ use Rattle.rounds.specs.Shares.{shareAt, wholeOf, partOf}
 abbrev pub maxSpan : ℕ
 maxSpan = maxTime + maxTime
 
--- the most that the workloads of a round can come to, two of each task and each at most t
+-- the most that either sum of a round can come to: at most two workloads of each task, each at most t
 abbrev pub maxSum : ℕ
 maxSum = 2 * maxTasks * maxTime
 

@@ -138,8 +138,9 @@ fn uncapped(e: Part, t: u32) -> u32
     q * e.units + least(e.units, a - q * e.period)
 }
 
-// A sum and one workload more: no task runs more than t in a window of t. The sum is here too, so that what is capped, each workload or all
-// of them, is decided in one place. Small numbers are asked for so that a wrong program fails on what it answers and not on an overflow.
+// A sum and one workload more: one task cannot run more than t in a window of t. The sum is here too, so that what is capped, each workload or
+// all of them, is decided in one place. The code would do with any load and t: within these bounds its wrong programs have no overflow, and
+// are refused for their answer.
 fn add_load(sum: u64, load: u32, t: u32) -> u64
     requires { ⌜ (sum ≤ maxSum) × (load ≤ maxSpan) × (t ≤ maxSpan) ⌝ }
     ensures { λ r. ⌜ r ≡ sum + min t load ⌝ }
@@ -200,15 +201,15 @@ fn iterate(s: Shares, deadline: u32) -> Verdict
         let mut whole: u64 = 0;
         let mut i: usize = 0;
         while i < n {
-            let x = uncapped(w.of[i], t);
-            whole = add_load(whole, x, t);
+            let load = uncapped(w.of[i], t);
+            whole = add_load(whole, load, t);
             i = i + 1;
         }
         let mut part: u64 = 0;
         let mut j: usize = 0;
         while j < m {
-            let y = uncapped(d.of[j], t);
-            part = add_load(part, y, t);
+            let load = uncapped(d.of[j], t);
+            part = add_load(part, load, t);
             j = j + 1;
         }
         let f = s.base + whole + (part + (s.cpus - 1)) / s.cpus;

@@ -10,4 +10,4 @@ use Rattle.theory.specs.Cases.{four, CasesHold}
 pub cases-hold : CasesHold
 unfolding four sumTo maxTo firstTo jobs uncapped workload ceilDiv ceiling sharedCT otherCT allCT highCT DB S O F L demandWith
 cases-hold =
-    record { third = refl; half = refl; waits = refl; shared = refl; others = refl; free = refl; lower = refl; long = refl; short = refl }
+    record { third = refl; half = refl; waits = refl; shared = refl; others = refl; free = refl; lower = refl; long = refl; short = refl; capped = refl }

@@ -1,4 +1,4 @@
--- The demand of a task falls neither with t, nor as its table is made harder (demand 3), nor by a workload that is nowhere less (request 3/12): one law, for any two workloads.
+-- The demand of a task falls neither with t, nor as its table is made harder (demand 3), nor by a larger workload (request 3/12): one law, for any two workloads.
 -- Assumes nothing.
 use Prim.Native.Nat.{ℕ, suc, _+_, _-_, _≤_, _<_}
 use mathlib.Core.Path.{_≡_, refl, sym, ap₂, _∙_}
@@ -29,12 +29,12 @@ pub record Runs (v : View) : Type 0 where
   pub cpus : 1 ≤ v .cpus
   pub T : (l : ℕ) → l < v .n → 1 ≤ v .T (level l)
 
--- the second is never less than the first, for a longer t and a shorter period either
-abbrev pub NoLess : Load → Load → Type 0
-NoLess W W' = (T T' D t t' x : ℕ) → 0 < T' → T' ≤ T → t ≤ t' → W T D t x ≤ W' T' D t' x
+-- the first is never more than the second, nor than the second over a longer t and with a shorter period
+abbrev pub NoMore : Load → Load → Type 0
+NoMore W W' = (T T' D t t' x : ℕ) → 0 < T' → T' ≤ T → t ≤ t' → W T D t x ≤ W' T' D t' x
 
-uncapped-no-less : NoLess workload uncapped
-uncapped-no-less T T' D t t' x pos hT ht = le-trans (workload-less T D t x) (uncapped-rises T T' D t t' x pos hT ht)
+workload-no-more : NoMore workload uncapped
+workload-no-more T T' D t t' x pos hT ht = le-trans (workload-less T D t x) (uncapped-rises T T' D t t' x pos hT ht)
 
 pub demand-start : (W : Load) (v : View) (i : Level) (t : ℕ) → v .C i ≤ demandWith W v i t
 unfolding demandWith
@@ -85,7 +85,7 @@ module _ (v w : View) (s : Harder v w) (i : ℕ) (hi : i < v .n) where
       sum-le maxResources _ _
       (λ k r. only-le (uses v (level i) (resource k)) _ _ _ (s .pairs i k hi r) (mul-le-mul (s .N i k hi r) (longest-le k r)))
 
-  module _ (W W' : Load) (up : NoLess W W') (runs : Runs w) (t t' : ℕ) (ht : t ≤ t') where
+  module _ (W W' : Load) (up : NoMore W W') (runs : Runs w) (t t' : ℕ) (ht : t ≤ t') where
     load-le : (l x y : ℕ) → l < v .n → y ≡ x → loadOf W v t (level l) x ≤ loadOf W' w t' (level l) y
     load-le l x y h e = rw (e, s .D l h) (up _ _ (v .D (level l)) t t' x (runs .T l (omega (arith, s .n))) (s .T l h) ht)
 
@@ -123,7 +123,7 @@ module _ (v w : View) (s : Harder v w) (i : ℕ) (hi : i < v .n) where
           divided (suc i) (v .cpus) (w .cpus) _ _ (runs .cpus) (s .cpus) others-le (decLe (suc i) (v .cpus)),
         )
 
-pub demand-le : (W W' : Load) → NoLess W W' → (v w : View) → Harder v w → Runs w → (i : ℕ) → i < v .n
+pub demand-le : (W W' : Load) → NoMore W W' → (v w : View) → Harder v w → Runs w → (i : ℕ) → i < v .n
     → (t t' : ℕ) → t ≤ t' → demandWith W v (level i) t ≤ demandWith W' w (level i) t'
 demand-le W W' up v w s runs i hi t t' ht = at-le v w s i hi W W' up runs t t' ht
 
@@ -141,11 +141,11 @@ harder-refl v = record {
   pairs = λ l k h r. refl;
 }
 
-pub demand-rises : (W : Load) → NoLess W W → (v : View) → Runs v → (i : ℕ) → i < v .n → Rises (demandWith W v (level i))
+pub demand-rises : (W : Load) → NoMore W W → (v : View) → Runs v → (i : ℕ) → i < v .n → Rises (demandWith W v (level i))
 demand-rises W up v runs i hi t t' ht = demand-le W W up v v (harder-refl v) runs i hi t t' ht
 
--- a task that has a bound in the harder table by the greater workload has one in the first by the other, no larger
-keeps : (W W' : Load) → NoLess W W' → (v w : View) → Harder v w → Runs w → (i : ℕ) → i < v .n
+-- a task that has a bound in the harder table by the larger workload has one, no larger, in the first by the smaller
+keeps : (W W' : Load) → NoMore W W' → (v w : View) → Harder v w → Runs w → (i : ℕ) → i < v .n
     → (t : ℕ) → verdictOf (demandWith W' w (level i)) (w .D (level i)) ≡ Meets t
     → (u : ℕ) × (verdictOf (demandWith W v (level i)) (v .D (level i)) ≡ Meets u) × (u ≤ t)
 keeps W W' up v w s runs i hi t e =
@@ -163,4 +163,4 @@ harder-keeps = keeps workload workload workload-rises
 -- REQUEST 3/12: a task that has a bound by document 01's workload has one by the capped, no larger
 pub capped-keeps : (v : View) → Runs v → (i : ℕ) → i < v .n → (t : ℕ) → verdictOf (demandWith uncapped v (level i)) (v .D (level i)) ≡ Meets t
     → (u : ℕ) × (verdictOf (demandOf v (level i)) (v .D (level i)) ≡ Meets u) × (u ≤ t)
-capped-keeps v = keeps workload uncapped uncapped-no-less v v (harder-refl v)
+capped-keeps v = keeps workload uncapped workload-no-more v v (harder-refl v)

@@ -42,14 +42,16 @@ pub record CasesHold : Type 0 where
   -- "m 3, O, F and L each 1: the quotient is 1, not 3"; with m 2 it is 2, not 1
   pub third : quotient 1 1 1 3 ≡ 1
   pub half : quotient 1 1 1 2 ≡ 2
-  -- of task 3 at t 3: twice the 6 of task 4's lock 2; task 2's lock 3; task 1's lock 1; of 8 and 9 units without a lock 3 each, the most that one task can run;
-  -- task 4's lock 1, and not its lock 2
+  -- of task 3 at t 17: twice the 6 of task 4's lock 2; twice task 2's lock 3; twice task 1's lock 1; of the units without a lock twice task 1's 8, and
+  -- 9 and 8 of task 2's 9; twice task 4's lock 1, and not its lock 2
   pub waits : DB four (level 2) ≡ 12
-  pub shared : S workload four (level 2) 3 ≡ 2
-  pub others : O workload four (level 2) 3 ≡ 3
-  pub free : F workload four (level 2) 3 ≡ 6
-  pub lower : L workload four (level 2) 3 ≡ 3
-  -- C + DB + S and a half of 12
-  pub long : demandOf four (level 2) 3 ≡ 40
+  pub shared : S workload four (level 2) 17 ≡ 2
+  pub others : O workload four (level 2) 17 ≡ 4
+  pub free : F workload four (level 2) 17 ≡ 33
+  pub lower : L workload four (level 2) 17 ≡ 6
+  -- C + DB + S and a half of 43
+  pub long : demandOf four (level 2) 17 ≡ 56
   -- task 2 is the m-th: C + DB + S
-  pub short : demandOf four (level 1) 3 ≡ 11
+  pub short : demandOf four (level 1) 17 ≡ 11
+  -- at t 3, of the 8 and 9 units without a lock 3 each: no workload is above t, and their sum may be
+  pub capped : F workload four (level 2) 3 ≡ 6

@@ -108,16 +108,20 @@ fn outcome(text: &str) -> String {
     }
 }
 
+/// A listing of an accepted table. Verdicts alone would not show that a field was misread here.
+fn spelled(r: &mut Random, table: Table) -> Vec<u8> {
+    let listing = generate::join(&generate::lines(r, &table));
+    assert_eq!(listing::read(&listing), Ok(table), "not read as the table it spells");
+    listing
+}
+
 /// The listings that are compared, in a fixed order.
 pub fn listings() -> Vec<Vec<u8>> {
     let mut all: Vec<Vec<u8>> = cases::listings();
     let mut r = Random::new(1);
     for _ in 0..VALID {
         let table = generate::table(&mut r);
-        let listing = generate::join(&generate::lines(&mut r, &table));
-        // verdicts alone would not show that a field was misread here
-        assert_eq!(listing::read(&listing), Ok(table), "not read as the table it spells");
-        all.push(listing);
+        all.push(spelled(&mut r, table));
     }
     for _ in 0..DAMAGED {
         let table = generate::table(&mut r);
@@ -132,7 +136,7 @@ pub fn listings() -> Vec<Vec<u8>> {
     let mut r = Random::new(4);
     for _ in 0..LONG_AMONG_SHORT {
         let table = generate::long_among_short(&mut r);
-        all.push(generate::join(&generate::lines(&mut r, &table)));
+        all.push(spelled(&mut r, table));
     }
     all
 }
@@ -165,10 +169,11 @@ fn capped(tally: &mut Tally, table: &Table) -> bool {
         return false;
     }
     tally.compared += 1;
-    if before != after {
-        tally.count("a bound is smaller, or a miss became one".into());
+    let (from_misses, from_bounds): (Vec<_>, Vec<_>) = pairs().filter(|(old, new)| new < old).partition(|(old, _)| *old == u64::MAX);
+    if !from_bounds.is_empty() {
+        tally.count("a bound is smaller".into());
     }
-    if pairs().any(|(old, new)| old == u64::MAX && new < old) {
+    if !from_misses.is_empty() {
         tally.count("a miss became a bound".into());
     }
     true
@@ -203,7 +208,7 @@ pub fn reports(program: &str) -> bool {
     // nothing is read of a listing that gets 1, and no time of one that gets 9
     tally.covers(&wanted(&[1, 2, 3, 4, 5, 6, 7, 8, 9]))
         && with_decimals.covers(&wanted(&[2, 3, 4, 5, 6, 7, 8]))
-        && by_cap.covers(&["a bound is smaller, or a miss became one", "a miss became a bound"].map(String::from))
+        && by_cap.covers(&["a bound is smaller", "a miss became a bound"].map(String::from))
 }
 
 /// Prints a small listing on which the two programs differ: lines are taken out as long as they still do.
