@@ -1,14 +1,9 @@
 -- The paper's points marked P hold: a listing's report by reading it and computing a few iterates of each task, the rest by computing.
 -- Assumes nothing.
-use Prim.Native.Nat.{_<_}
 use Prim.Native.String.{String}
-use mathlib.Core.Path.{_≡_, refl, _∙_}
-use mathlib.Core.List.{_++_}
+use mathlib.Core.Path.{refl}
 use lib.Dec.{lit<}
-use Rattle.basics.specs.Over.{sumTo, maxTo, firstTo, joinTo}
-use Rattle.basics.specs.Text.{bytes}
-use Rattle.table.specs.declared.Table.{Table}
-use Rattle.table.specs.declared.Checked.the-variants.{Fine}
+use Rattle.basics.specs.Over.{sumTo, maxTo, firstTo}
 use Rattle.table.specs.Empty.{emptyTask, emptyTable}
 use Rattle.table.specs.Faults.{firstFault}
 use Rattle.table.specs.Rules.{timesInRange, timesInOrder, timesFault, isUnused, usedInRange, pairInRange, totalsFit, pairFault, pairsFault, taskFault, tasksFault, tableFault}
@@ -17,16 +12,13 @@ use Rattle.put.specs.Text.{width, countText}
 use Rattle.line.specs.Fields.{fieldCount}
 use Rattle.line.specs.Line.{cpusLine, taskLine, useLine, lineSays}
 use Rattle.listing.specs.Read.{pastAfter, newTask, tableAfter, readEnd, readLines, readListing}
-use Rattle.theory.specs.declared.Verdict.{Verdict}
 use Rattle.theory.specs.declared.Verdict.the-variants.{Meets, Misses}
 use Rattle.theory.specs.Work.{uncapped, workload, jobs, ceilDiv}
-use Rattle.theory.specs.View.{level, ceiling}
+use Rattle.theory.specs.View.{ceiling}
 use Rattle.theory.specs.Demand.{sharedCT, otherCT, allCT, highCT, DB, S, O, F, L, demandWith}
 use Rattle.theory.proofs.VerdictLaws.{climb}
-use Rattle.theory.specs.Tables.{verdictIn}
 use Rattle.analysis.proofs.ByIterates.{iterate-meets, iterate-misses}
-use Rattle.page.specs.Report.{verdictText, rowText, pageText, reportText}
-use Rattle.page.proofs.Reports.{report-accepted}
+use Rattle.page.specs.Report.{verdictText, rowText}
 use Rattle.promises.specs.Points.{Holds, All, none, _and_, points}
 use Rattle.promises.proofs.ThreeTasks.{tableIn, three}
 
