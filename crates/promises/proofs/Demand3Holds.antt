@@ -15,7 +15,7 @@ use Rattle.theory.specs.Work.{uncapped, workload, jobs, ceilDiv}
 use Rattle.theory.specs.View.{level, ceiling}
 use Rattle.theory.specs.Demand.{sharedCT, otherCT, allCT, highCT, DB, S, O, F, L, demandWith, demandOf}
 use Rattle.theory.proofs.VerdictLaws.{climb}
-use Rattle.theory.proofs.DemandLaws.{harder-keeps}
+use Rattle.theory.proofs.BoundLaws.{harder-keeps}
 use Rattle.analysis.specs.declared.Answer.the-variants.{Known}
 use Rattle.theory.specs.Tables.{viewOf, verdictIn}
 use Rattle.analysis.specs.Answers.{boundOf}

@@ -24,7 +24,7 @@ use Rattle.theory.specs.Verdict.{Least}
 use Rattle.theory.specs.Tables.{viewOf, verdictIn}
 use Rattle.theory.proofs.WorkLaws.{uncapped-rises, workload-window, workload-less, workload-rises, workload-grows}
 use Rattle.theory.proofs.VerdictLaws.{verdict-is, climb}
-use Rattle.theory.proofs.DemandLaws.{capped-keeps}
+use Rattle.theory.proofs.BoundLaws.{capped-keeps}
 use Rattle.analysis.specs.declared.Answer.the-variants.{Known}
 use Rattle.analysis.specs.Answers.{boundOf}
 use Rattle.analysis.proofs.ByIterates.{fine-runs, bound-known, meets-with, misses-with, iterate-meets}

@@ -3,7 +3,7 @@
 use Prim.Native.Nat.{ℕ, suc, _+_, _-_, _≤_, _<_}
 use mathlib.Core.Path.{_≡_, refl, sym, ap₂, _∙_}
 use mathlib.Core.Bool.{Bool, true, false, not}
-use native.Mathlib.Nat.{le-refl, le-trans, mul-le-mul}
+use native.Mathlib.Nat.{le-refl, mul-le-mul}
 use native.Mathlib.Decide.{decLe}
 use native.Mathlib.Omega.{arith}
 use borrow.Author.Tests.{le-leb, lt-leb}
@@ -14,14 +14,12 @@ use Rattle.basics.specs.Choice.{pick, only}
 use Rattle.basics.specs.Over.{sumTo}
 use Rattle.basics.proofs.SumLaws.{sum-le, sum-wider, sum-eq, sum-some}
 use Rattle.basics.proofs.MaxLaws.{max-wider}
-use Rattle.theory.specs.declared.Verdict.the-variants.{Meets}
-use Rattle.theory.specs.Work.{uncapped, workload, ceilDiv}
+use Rattle.theory.specs.Work.{ceilDiv}
 use Rattle.theory.specs.View.{View, level, resource, isAbove, largestBelow, uses, ceiling}
-use Rattle.theory.specs.Demand.{sharedCT, otherCT, allCT, highCT, DB, Load, loadOf, S, O, F, L, demandWith, demandOf}
-use Rattle.theory.specs.Verdict.{verdictOf, Right}
-use Rattle.theory.proofs.VerdictLaws.{Rises, keeps-bound, verdict-right}
+use Rattle.theory.specs.Demand.{sharedCT, otherCT, allCT, highCT, DB, Load, loadOf, S, O, F, L, demandWith}
+use Rattle.theory.proofs.VerdictLaws.{Rises}
 use Rattle.theory.specs.Harder.{Harder}
-use Rattle.theory.proofs.WorkLaws.{uncapped-rises, workload-rises, workload-less, ceilDiv-rises}
+use Rattle.theory.proofs.WorkLaws.{ceilDiv-rises}
 use Rattle.theory.proofs.PassLaws.{ceiling-above}
 
 -- what the analysis needs of a table to be monotone at all: a processor, and no period of 0
@@ -32,9 +30,6 @@ pub record Runs (v : View) : Type 0 where
 -- the first is never more than the second, nor than the second over a longer t and with a shorter period
 abbrev pub NoMore : Load → Load → Type 0
 NoMore W W' = (T T' D t t' x : ℕ) → 0 < T' → T' ≤ T → t ≤ t' → W T D t x ≤ W' T' D t' x
-
-workload-no-more : NoMore workload uncapped
-workload-no-more T T' D t t' x pos hT ht = le-trans (workload-less T D t x) (uncapped-rises T T' D t t' x pos hT ht)
 
 pub demand-start : (W : Load) (v : View) (i : Level) (t : ℕ) → v .C i ≤ demandWith W v i t
 unfolding demandWith
@@ -143,24 +138,3 @@ harder-refl v = record {
 
 pub demand-rises : (W : Load) → NoMore W W → (v : View) → Runs v → (i : ℕ) → i < v .n → Rises (demandWith W v (level i))
 demand-rises W up v runs i hi t t' ht = demand-le W W up v v (harder-refl v) runs i hi t t' ht
-
--- a task that has a bound in the harder table by the larger workload has one, no larger, in the first by the smaller
-keeps : (W W' : Load) → NoMore W W' → (v w : View) → Harder v w → Runs w → (i : ℕ) → i < v .n
-    → (t : ℕ) → verdictOf (demandWith W' w (level i)) (w .D (level i)) ≡ Meets t
-    → (u : ℕ) × (verdictOf (demandWith W v (level i)) (v .D (level i)) ≡ Meets u) × (u ≤ t)
-keeps W W' up v w s runs i hi t e =
-    let f = demandWith W v (level i) in
-    let g = demandWith W' w (level i) in
-    let r : Right g (w .D (level i)) (Meets t) = rw e at (verdict-right g (w .D (level i))) in
-    keeps-bound f g (v .D (level i)) t _ (λ t. demand-le W W' up v w s runs i hi t t (le-refl t))
-    (verdict-right f (v .D (level i))) (rw (s .D i hi) at r)
-
--- DEMAND 3: a task that has a bound in the harder table has one in the first, no larger
-pub harder-keeps : (v w : View) → Harder v w → Runs w → (i : ℕ) → i < v .n → (t : ℕ) → verdictOf (demandOf w (level i)) (w .D (level i)) ≡ Meets t
-    → (u : ℕ) × (verdictOf (demandOf v (level i)) (v .D (level i)) ≡ Meets u) × (u ≤ t)
-harder-keeps = keeps workload workload workload-rises
-
--- REQUEST 3/12: a task that has a bound by document 01's workload has one by the capped, no larger
-pub capped-keeps : (v : View) → Runs v → (i : ℕ) → i < v .n → (t : ℕ) → verdictOf (demandWith uncapped v (level i)) (v .D (level i)) ≡ Meets t
-    → (u : ℕ) × (verdictOf (demandOf v (level i)) (v .D (level i)) ≡ Meets u) × (u ≤ t)
-capped-keeps v = keeps workload uncapped workload-no-more v v (harder-refl v)
