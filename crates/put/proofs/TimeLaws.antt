@@ -1,11 +1,11 @@
 -- Laws of the text of a time.
 -- Assumes nothing.
 use Prim.Native.Nat.{ℕ, zero, suc, _+_, _-_, _*_, _/_, _%_, _^_, _≤_, _<_}
-use mathlib.Core.Path.{_≡_, refl, sym, ap, _∙_}
+use mathlib.Core.Path.{_≡_, refl, ap, _∙_}
 use mathlib.Core.Bool.{Bool, true, false}
 use mathlib.Core.List.{List, [], _∷_, _++_, append-nil}
 use native.Mathlib.Omega.{arith}
-use lib.ListN.{length, drop, length-append}
+use lib.ListN.{length, length-append}
 use lib.Dec.{eqb, lit≤}
 use borrow.Author.Tests.{eqb-true, eqb-false, eq-eqb, ne-eqb}
 use Rattle.basics.proofs.FillLaws.{Filled}
@@ -49,44 +49,53 @@ trimmed x h = go (eqb x 0) (eqb (x % 100) 0) (eqb (x % 10) 0) refl refl refl
     go false false false p q r =
         (3, x, record { is = trim-three x (eqb-false (x % 10) 0 r); few = lit≤ tt; small = omega arith; worth = omega arith })
 
+-- ---- what stands behind the whole part
+
+abbrev pub fractionText : ℕ → List ℕ
+fractionText x = pointed (trim (digitsOf 3 x))
+
+module _ (x k y : ℕ) (e : trim (digitsOf 3 x) ≡ digitsOf k y) where
+  pub fraction-none : k ≡ 0 → fractionText x ≡ []
+  fraction-none z = rw (e, z)
+
+  pub fraction-some : (k ≡ 0 → ⊥) → fractionText x ≡ 46 ∷ digitsOf k y
+  fraction-some h = rw (e, full (digitsOf k y) (omega (arith, digits-length k y)))
+    where
+      full : (ys : List ℕ) → 0 < length ys → pointed ys ≡ 46 ∷ ys
+      full [] h = absurd (omega arith)
+      full (y ∷ ys) h = refl
+
+  pub fraction-length : (k ≡ 0 → ⊥) → k + 1 ≡ length (fractionText x)
+  fraction-length h = omega (arith, ap length (fraction-some h), digits-length k y)
+
+pub fraction-most : (x : ℕ) → x < 1000 → length (fractionText x) ≤ 4
+fraction-most x h = let t = trimmed x h in go (t .0) (t .1) (t .2)
+  where
+    go : (k y : ℕ) → Trimmed x k y → length (fractionText x) ≤ 4
+    go zero y t = omega (arith, ap length (fraction-none x zero y (t .is) refl))
+    go (suc k) y t = omega (arith, t .few, fraction-length x (suc k) y (t .is) (λ z. omega arith))
+
 -- ---- times
 
-module _ (us k y : ℕ) (e : trim (digitsOf 3 (us % 1000)) ≡ digitsOf k y) where
-  pub time-plain : k ≡ 0 → timeText us ≡ countText (us / 1000)
+module _ (us : ℕ) where
+  time-parts : timeText us ≡ countText (us / 1000) ++ fractionText (us % 1000)
   unfolding timeText
-  time-plain z = rw (e, z, append-nil)
+  time-parts = refl
 
-  pub time-point : (k ≡ 0 → ⊥) → timeText us ≡ countText (us / 1000) ++ 46 ∷ digitsOf k y
-  unfolding timeText
-  time-point h = rw (e, point-full (digitsOf k y) (omega (arith, digits-length k y)))
-    where
-      point-full : (ys : List ℕ) → 0 < length ys → pointed ys ≡ 46 ∷ ys
-      point-full [] h = absurd (omega arith)
-      point-full (y ∷ ys) h = refl
+  pub time-plain : (k y : ℕ) → trim (digitsOf 3 (us % 1000)) ≡ digitsOf k y → k ≡ 0 → timeText us ≡ countText (us / 1000)
+  time-plain k y e z = time-parts ∙ rw (fraction-none (us % 1000) k y e z, append-nil)
 
-  pub plain-length : k ≡ 0 → length (timeText us) ≡ width (us / 1000)
-  plain-length z = ap length (time-plain z) ∙ count-length (us / 1000)
+  pub time-point : (k y : ℕ) → trim (digitsOf 3 (us % 1000)) ≡ digitsOf k y → (k ≡ 0 → ⊥) → timeText us ≡ countText (us / 1000) ++ 46 ∷ digitsOf k y
+  time-point k y e h = time-parts ∙ rw (fraction-some (us % 1000) k y e h)
 
-  pub point-length : (k ≡ 0 → ⊥) → length (timeText us) ≡ width (us / 1000) + 1 + k
-  point-length h =
-      omega (arith, ap length (time-point h), length-append (countText (us / 1000)) (46 ∷ digitsOf k y), count-length (us / 1000), digits-length k y)
+  pub parts-length : {w n : ℕ} → w ≡ width (us / 1000) → n ≡ length (fractionText (us % 1000)) → w + n ≡ length (timeText us)
+  parts-length p q =
+      omega (arith, ap length time-parts, length-append (countText (us / 1000)) (fractionText (us % 1000)), count-length (us / 1000))
 
-module _ (us k y : ℕ) (e : trim (digitsOf 3 (us % 1000)) ≡ digitsOf k y) {o o₁ : List ℕ} where
-  pub plain-filled : {w : ℕ} → k ≡ 0 → Filled o o₁ (countText (us / 1000)) w → (w ≡ length (timeText us)) × (o₁ ≡ timeText us ++ drop w o)
-  plain-filled z f = rw (time-plain us k y e z) (sym (f .long), f .holds)
+  pub parts-filled : {o o₁ : List ℕ} (w : ℕ) {n : ℕ} → n ≡ length (fractionText (us % 1000))
+      → Filled o o₁ (countText (us / 1000) ++ fractionText (us % 1000)) (w + length (fractionText (us % 1000))) → Filled o o₁ (timeText us) (w + n)
+  parts-filled w q f = rw (time-parts, q) f
 
-  pub point-filled : (w : ℕ) → (k ≡ 0 → ⊥) → Filled o o₁ (countText (us / 1000) ++ 46 ∷ digitsOf k y) (w + (k + 1))
-      → (w + 1 + k ≡ length (timeText us)) × (o₁ ≡ timeText us ++ drop (w + 1 + k) o)
-  point-filled w h f =
-      let n : w + 1 + k ≡ w + (k + 1) = omega arith in
-      rw (time-point us k y e h, n) (sym (f .long), f .holds)
-
-pub time-short : (us : ℕ) → length (timeText us) ≤ width (us / 1000) + 4
-time-short us = let t = trimmed (us % 1000) (omega arith) in go (t .0) (t .1) (t .2)
-  where
-    go : (k y : ℕ) → Trimmed (us % 1000) k y → length (timeText us) ≤ width (us / 1000) + 4
-    go zero y t = omega (arith, plain-length us zero y (t .is) refl)
-    go (suc k) y t = omega (arith, t .few, point-length us (suc k) y (t .is) (λ z. omega arith))
-
-pub time-length : (us : ℕ) → us < 4_294_967_296 → length (timeText us) ≤ 11
-time-length us h = omega (arith, time-short us, width-few (us / 1000) 7 (lit≤ tt) (omega arith))
+  pub time-length : us < 4_294_967_296 → length (timeText us) ≤ 11
+  time-length h =
+      omega (arith, parts-length refl refl, fraction-most (us % 1000) (omega arith), width-few (us / 1000) 7 (lit≤ tt) (omega arith))

@@ -1,10 +1,10 @@
 // Texts, counts and times, written at the start of an output.
 ghost use mathlib.Core.Path.{_≡_};
-ghost use mathlib.Core.List.{_∷_, _++_};
-ghost use Prim.Native.Nat.{_+_, _≤_, _<_};
+ghost use mathlib.Core.List.{_++_};
+ghost use Prim.Native.Nat.{_≤_, _<_};
 ghost use lib.ListN.{length, drop};
 ghost use Rattle.basics.specs.Text.{putInto};
-ghost use Rattle.put.specs.Text.{width, digitsOf, trim, countText, timeText, putAnswer, putLength};
+ghost use Rattle.put.specs.Text.{width, digitsOf, trim, pointed, countText, timeText, putAnswer, putLength};
 
 // How many bytes were written, or that the output is too short and was left as it was.
 pub enum Put {
@@ -87,6 +87,19 @@ fn fraction_of(x: u32) -> Digits
     Digits { value: x, count: 3 }
 }
 
+// How many bytes a fraction in thousandths takes: a point and its digits, or none.
+fn fraction_len(x: u32) -> usize
+    requires { ⌜ x < 1000 ⌝ }
+    ensures { λ r. ⌜ r ≡ length (pointed (trim (digitsOf 3 x))) ⌝ }
+{
+    let f = fraction_of(x);
+    let k = f.count;
+    if 0 < k {
+        return k + 1;
+    }
+    0
+}
+
 // The last k digits of n, at the start of out.
 fn put_digits(out: &mut [u8], n: u32, k: usize)
     requires { ⌜ k ≤ length (now out) ⌝ }
@@ -95,37 +108,24 @@ fn put_digits(out: &mut [u8], n: u32, k: usize)
     let mut rest = n;
     let mut i = k;
     while 0 < i {
-        i -= 1;
-        out[i] = 48 + (rest % 10) as u8;
+        out[i - 1] = 48 + (rest % 10) as u8;
         rest /= 10;
+        i -= 1;
     }
 }
 
-// A point and the last k digits of x, at the start of out.
-fn put_fraction(out: &mut [u8], x: u32, k: usize)
-    requires { ⌜ k < length (now out) ⌝ }
-    ensures { λ _. ⌜ now (out .exit) ≡ (46 ∷ digitsOf k x) ++ drop (k + 1) (now (out .entry)) ⌝ }
+// A fraction in thousandths, at the start of out: a point and its digits, or nothing.
+fn put_fraction(out: &mut [u8], x: u32)
+    requires { ⌜ (x < 1000) × (length (pointed (trim (digitsOf 3 x))) ≤ length (now out)) ⌝ }
+    ensures { λ _. ⌜ now (out .exit) ≡ pointed (trim (digitsOf 3 x)) ++ drop (length (pointed (trim (digitsOf 3 x)))) (now (out .entry)) ⌝ }
 {
-    out[0] = 46;
-    put_digits(&mut out[1..], x, k);
-}
-
-// A time at the start of a scratch area, which has room for it; answers its length.
-fn build_time(out: &mut [u8], us: u32) -> usize
-    requires { ⌜ 16 ≤ length (now out) ⌝ }
-    ensures { λ r. ⌜ (r ≡ length (timeText us)) × (now (out .exit) ≡ timeText us ++ drop r (now (out .entry))) ⌝ }
-{
-    let whole = us / 1000;
-    let w = width_of(whole);
-    put_digits(out, whole, w);
-    let f = fraction_of(us % 1000);
+    let f = fraction_of(x);
     let k = f.count;
-    let x = f.value;
     if k == 0 {
-        return w;
+        return;
     }
-    put_fraction(&mut out[w..], x, k);
-    w + 1 + k
+    out[0] = 46;
+    put_digits(&mut out[1..], f.value, k);
 }
 
 // s at the start of out.
@@ -152,12 +152,7 @@ pub fn time_len(us: u32) -> usize
     ensures { λ r. ⌜ r ≡ length (timeText us) ⌝ }
 {
     let w = width_of(us / 1000);
-    let f = fraction_of(us % 1000);
-    let k = f.count;
-    if k == 0 {
-        return w;
-    }
-    w + 1 + k
+    w + fraction_len(us % 1000)
 }
 
 // Any bytes at the start of out.
@@ -184,15 +179,18 @@ pub fn put_count(out: &mut [u8], n: u32) -> Put
     Put::Wrote(k)
 }
 
-// A time at the start of out: its digits are built in a scratch area, and copied.
+// A time at the start of out. Its length is known before a byte is stored, so that each goes straight to its place.
 pub fn put_time(out: &mut [u8], us: u32) -> Put
     ensures { λ r. ⌜ (r ≡ putAnswer (timeText us) (now (out .entry))) × (now (out .exit) ≡ putInto (timeText us) (now (out .entry))) ⌝ }
 {
-    let mut scratch = [0u8; 16];
-    let n = build_time(&mut scratch, us);
+    let whole = us / 1000;
+    let rest = us % 1000;
+    let w = width_of(whole);
+    let n = w + fraction_len(rest);
     if out.len() < n {
         return Put::Short;
     }
-    put_bytes(out, &scratch[..n]);
+    put_digits(out, whole, w);
+    put_fraction(&mut out[w..], rest);
     Put::Wrote(n)
 }

@@ -38,6 +38,7 @@ put-digits-spec =
     (λ c. search needs)
     (λ c. search needs)
     (λ c. search needs)
+    (λ c. search needs)
     loop-again
     (λ c. search needs)
     returns)

@@ -1,55 +1,53 @@
--- `put::put_time` meets its contract: what is copied is the first n bytes of the scratch area, which are the time's. Assumes nothing.
-use mathlib.Core.Path.{_≡_, sym, ap, _∙_}
+-- `put::put_time` meets its contract: where the text fits, the whole part fills the output up to its width, and the rest is lent to the fraction. Assumes nothing.
+use Prim.Native.Nat.{_+_, _%_}
+use mathlib.Core.Path.{_≡_, refl}
 use native.Mathlib.Omega.{arith}
 use borrow.Author.Needs.{needs}
-use lib.ListN.{length, take}
-use lib.Seq.{take-at}
-use Rattle.basics.proofs.FillLaws.{filled-bytes}
+use lib.ListN.{length}
+use Rattle.basics.proofs.FillLaws.{filled-part}
 use Rattle.put.specs.Text.{timeText}
-use Rattle.put.proofs.TimeLaws.{time-length}
+use Rattle.put.proofs.TextLaws.{count-filled}
+use Rattle.put.proofs.TimeLaws.{fractionText, parts-length, parts-filled, time-length}
 use Rattle.put.proofs.PutLaws.{put-short, put-filled}
 use Rattle.put.proofs.put_time.Statement.{statement}
 use Rattle.put.proofs.put_time.Tie as tie
 
-built : (c : tie.After-build-time) → take (c .build-time .result) (c .build-time .last .0) ≡ timeText (c .before .before .before .args .us)
-built c =
-    let b = c .build-time in
-    ap (take (b .result)) (b .ensures .1) ∙ take-at _ _ (b .result) (sym (b .ensures .0))
+long : (c : tie.After-fraction-len) → c .before .width-of .result + c .fraction-len .result ≡ length (timeText (c .before .before .before .args .us))
+long c = parts-length (c .before .before .before .args .us) (c .before .width-of .ensures) (c .fraction-len .ensures)
+
+add-n : tie.Need-add-n
+add-n c = omega (arith, long c, time-length (c .before .before .before .args .us) (omega arith))
 
 returns : tie.Need-returns
 returns c =
-    let b = c .before .before in
-    let a = b .before .before .before .args in
-    put-short (timeText (a .us)) (a .out .now) (b .build-time .ensures .0) (c .if1 .taken)
-
-array-share-prefix-scratch : tie.Need-array-share-prefix-scratch
-array-share-prefix-scratch c =
-    let b = c .before .before .before in
-    omega (arith, b .build-time .kept .0, time-length (b .before .before .before .args .us) (omega arith))
-
-slice-aggregate-put-bytes : tie.Need-slice-aggregate-put-bytes
-slice-aggregate-put-bytes c =
-    let b = c .before .before .before .before in
-    b .build-time .ensures .0 ∙ sym (ap length (built b))
-
-put-bytes-requires : tie.Need-put-bytes-requires
-put-bytes-requires c κs = omega (arith, ap length (built (c .before .before .before .before)))
+    let a = c .before .before .before .before .args in
+    put-short (timeText (a .us)) (a .out .now) (long (c .before)) (c .if1 .taken)
 
 returns-2 : tie.Need-returns-2
 returns-2 c =
-    let p = c .before .before in
-    let b = p .before .before .before .before .before in
-    put-filled (filled-bytes (built b) (b .build-time .ensures .0) (p .put-bytes .kept .0) (p .put-bytes .ensures)) (p .before .before .before .if1 .left)
+    let f = c .before .before in
+    let d = f .before .before .before .before in
+    let e = d .before .before in
+    let w = e .before .before in
+    let us = w .before .before .args .us in
+    let whole = count-filled _ (w .width-of .ensures) (d .put-digits .ensures) (d .put-digits .kept .0) in
+    put-filled
+    (parts-filled us (w .width-of .result) (e .before .fraction-len .ensures)
+    (filled-part whole (fractionText (us % 1000)) (omega arith) refl (f .put-fraction .kept .0) (f .put-fraction .ensures)))
+    (e .if1 .left)
 
 pub put-time-spec : {M : Type 1} → statement M
 put-time-spec =
     tie.close
     (tie.spec
+    (λ c κs. search needs)
+    (λ c κs. search needs)
+    add-n
+    returns
+    (λ c κs. search needs)
+    (λ c. search needs)
+    (λ c. search needs)
     (λ c. search needs)
     (λ c κs. search needs)
-    returns
-    array-share-prefix-scratch
-    slice-aggregate-put-bytes
-    put-bytes-requires
     (λ c. search needs)
     returns-2)
