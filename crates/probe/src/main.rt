@@ -1,4 +1,4 @@
-// A test program: hands a raw table of any numbers to one entry point of the library, or a listing or an archive to its reader, and prints the answer and all that was lent.
+// A test program: hands a raw table of any numbers to one entry point of the library, a listing or an archive to its reader, or a time to its writer, and prints the answer and all that was lent.
 // docs/PROBE.md describes its input. Its contracts say nothing: it is for comparing, and what it calls is proved elsewhere.
 ghost use Prim.Native.Nat.{_≤_};
 ghost use lib.ListN.{length};
@@ -6,6 +6,7 @@ use analysis::Answer;
 use analysis::Record;
 use libc::STDIN_FILENO;
 use libc::STDOUT_FILENO;
+use put::Put;
 use table::Checked;
 use table::Level;
 use table::Pair;
@@ -187,14 +188,23 @@ fn bound(t: Table, task: u32) {
     }
 }
 
+fn say_wrote(k: usize) {
+    say(b"wrote ");
+    io::print_decimal(STDOUT_FILENO, k as u64);
+    say(b"\n");
+}
+
 fn say_written(w: Written) {
     match w {
-        Written::Wrote(k) => {
-            say(b"wrote ");
-            io::print_decimal(STDOUT_FILENO, k as u64);
-            say(b"\n");
-        }
+        Written::Wrote(k) => say_wrote(k),
         Written::NotWritten(r) => say_refusal(r),
+    }
+}
+
+fn say_put(p: Put) {
+    match p {
+        Put::Wrote(k) => say_wrote(k),
+        Put::Short => say(b"short\n"),
     }
 }
 
@@ -210,6 +220,13 @@ fn archive_into(t: Table, out: &mut [u8], room: usize)
     requires { ⌜ room ≤ length (now out) ⌝ }
 {
     say_written(card::write(t, &mut out[..room]));
+    say(out);
+}
+
+fn time_into(us: u32, out: &mut [u8], room: usize)
+    requires { ⌜ room ≤ length (now out) ⌝ }
+{
+    say_put(put::put_time(&mut out[..room], us));
     say(out);
 }
 
@@ -231,6 +248,16 @@ fn archive(t: Table, room: u32) {
     }
     let mut out = [b'#'; OUTPUT];
     archive_into(t, &mut out, room as usize);
+}
+
+// Entry point 8: `put::put_time`, with an output of so many bytes.
+fn put_time(us: u32, room: u32) {
+    if OUTPUT < room as usize {
+        say(b"bad output\n");
+        return;
+    }
+    let mut out = [b'#'; OUTPUT];
+    time_into(us, &mut out, room as usize);
 }
 
 // What a reader answers; then `writing::write` of the table that it gives.
@@ -275,6 +302,7 @@ fn main() {
         5 => read(&space, argument),
         6 => archive(t, argument),
         7 => unarchive(&space, argument),
+        8 => put_time(word(&space, 2), argument),
         _ => say(b"bad request\n"),
     }
 }

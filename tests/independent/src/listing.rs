@@ -155,6 +155,13 @@ fn push_count(text: &mut String, x: u64) {
     push_digits(text, x, 1);
 }
 
+/// The text of a time by itself.
+pub fn time_text(us: u64) -> String {
+    let mut text = String::new();
+    push_time(&mut text, us);
+    text.split_off(1)
+}
+
 /// Microseconds as milliseconds, without the zeros that a fraction ends in.
 fn push_time(text: &mut String, us: u64) {
     push_count(text, us / 1_000);

@@ -65,6 +65,7 @@ fn main() -> ExitCode {
                 && probe::readings(probe)
                 && probe::compare(probe)
                 && probe::longest_text(report, probe)
+                && probe::times(probe)
                 && probe::archives(probe)
                 && programs::compare(archive, unarchive);
             if same {

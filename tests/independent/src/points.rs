@@ -11,6 +11,7 @@ pub fn hold() {
     case_a();
     workloads();
     fields();
+    written();
     refusals();
     thirds();
     decimals();
@@ -65,6 +66,14 @@ fn fields() {
     }
     refused("cpus 2\ntask 10000.001 1 1\n", (4, 2));
     refused("cpus 2\ntask 0 1 1\n", (4, 2));
+}
+
+/// No leading zeros, none at the end of a fraction, and no point without one.
+fn written() {
+    let texts = [(0, "0"), (5, "0.005"), (50, "0.05"), (500, "0.5"), (2_000, "2"), (2_005, "2.005"), (2_050, "2.05"), (2_500, "2.5"), (62_500, "62.5"), (10_000_000, "10000")];
+    for (us, text) in texts {
+        assert_eq!(listing::time_text(us), text);
+    }
 }
 
 /// A time field rounded down, and rounded up.

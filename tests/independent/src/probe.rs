@@ -1,5 +1,5 @@
 //! Tables handed over directly, by way of the program `probe`: the check, one task's bound, rows and outputs of every length. And listings and
-//! cards: which table each is read as.
+//! cards: which table each is read as. And times: what is written of each, into outputs of every length.
 //! docs/PROBE.md describes its input.
 
 use crate::analysis::{self, Verdict};
@@ -71,22 +71,23 @@ fn row(table: &Table, room: usize) -> String {
     answer + &lines.concat()
 }
 
-/// An output of so many bytes, into which a writer puts a table.
-fn output(table: &Table, room: usize, write: fn(&Table) -> Vec<u8>) -> Vec<u8> {
+/// An output of so many bytes, into which a writer puts what it was asked for, if there is something and it fits.
+fn filled(written: Result<Vec<u8>, String>, room: usize, short: String) -> Vec<u8> {
     let mut bytes = vec![b'#'; OUTPUT];
-    let answer = match table.check() {
-        Err(r) => refused(r),
-        Ok(()) => {
-            let written = write(table);
-            if room < written.len() {
-                refused((11, 0))
-            } else {
-                bytes[..written.len()].copy_from_slice(&written);
-                format!("wrote {}\n", written.len())
-            }
+    let answer = match written {
+        Err(refusal) => refusal,
+        Ok(written) if room < written.len() => short,
+        Ok(written) => {
+            bytes[..written.len()].copy_from_slice(&written);
+            format!("wrote {}\n", written.len())
         }
     };
     [answer.into_bytes(), bytes].concat()
+}
+
+fn output(table: &Table, room: usize, write: fn(&Table) -> Vec<u8>) -> Vec<u8> {
+    let written = table.check().map(|()| write(table)).map_err(refused);
+    filled(written, room, refused((11, 0)))
 }
 
 fn text(table: &Table) -> Vec<u8> {
@@ -179,6 +180,30 @@ pub fn readings(program: &str) -> bool {
     let mut wanted: Vec<String> = (2..=9).map(|k| format!("read: refused {k:>2}")).collect();
     wanted.push("read: fine".into());
     tally.covers(&wanted)
+}
+
+/// A time into an output of every length up to one byte more than its text needs, and into a long one. The whole part has one to seven digits, the
+/// fraction none to three, of which the first ones may be zeros; 62.5 is the time that a clerk once got as 62.005.
+pub fn times(program: &str) -> bool {
+    let wholes = [0, 2, 9, 10, 62, 99, 100, 999, 1_000, 9_999, 10_000, 99_999, 100_000, 999_999, 1_000_000, 4_294_966];
+    let fractions = [0, 1, 5, 9, 10, 50, 99, 100, 205, 500, 900, 990, 999];
+    let all = wholes.iter().flat_map(|whole| fractions.map(|fraction| whole * 1_000 + fraction)).chain([u32::MAX]);
+    let mut tally = Tally::new();
+    for us in all {
+        let text = listing::time_text(us as u64).into_bytes();
+        for room in (0..=text.len() + 1).chain([OUTPUT]) {
+            let expected = filled(Ok(text.clone()), room, "short\n".into());
+            let found = run(program, &request(8, room as u32, &us.to_be_bytes()));
+            if !found.is(&expected) {
+                println!("put_time of {us} with an output of {room} bytes differs\nhere:\n{}\n{program}:\n{found}", String::from_utf8_lossy(&expected));
+                return false;
+            }
+            tally.count(outcome("put_time", &expected));
+        }
+        tally.compared += 1;
+    }
+    tally.print(&format!("times: {} compared, {} calls", tally.compared, tally.answers()));
+    tally.covers(&["put_time: wrote".into(), "put_time: short".into()])
 }
 
 /// A refusal of a card with what its place was. A reader that looks at the first block alone gets none right at the second.
