@@ -68,7 +68,7 @@ module _ (x k y : ℕ) (e : trim (digitsOf 3 x) ≡ digitsOf k y) where
   pub fraction-length : (k ≡ 0 → ⊥) → k + 1 ≡ length (fractionText x)
   fraction-length h = omega (arith, ap length (fraction-some h), digits-length k y)
 
-pub fraction-most : (x : ℕ) → x < 1000 → length (fractionText x) ≤ 4
+fraction-most : (x : ℕ) → x < 1000 → length (fractionText x) ≤ 4
 fraction-most x h = let t = trimmed x h in go (t .0) (t .1) (t .2)
   where
     go : (k y : ℕ) → Trimmed x k y → length (fractionText x) ≤ 4

@@ -155,7 +155,7 @@ fn push_count(text: &mut String, x: u64) {
     push_digits(text, x, 1);
 }
 
-/// The text of a time by itself.
+/// The text of a time, without the space that it has in a line.
 pub fn time_text(us: u64) -> String {
     let mut text = String::new();
     push_time(&mut text, us);

@@ -9,7 +9,7 @@
 //!     independent bench FOLDER              write the benchmark's listings there
 //!     independent story                     the smallest story of request 3/12: a listing, an empty line, and the listing with one task made shorter
 //!     independent compare REPORT PROBE ARCHIVE UNARCHIVE
-//!                                           run them on many listings, tables and cards and compare; exit 1 on a difference
+//!                                           run them on many listings, tables, times and cards and compare; exit 1 on a difference
 
 mod analysis;
 mod cap;

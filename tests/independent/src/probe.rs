@@ -13,10 +13,10 @@ const TABLES: u64 = 600;
 const LONG_AMONG_SHORT: u64 = 100;
 const ROWS: usize = 40;
 const OUTPUT: usize = 20_000;
-/// What a request has after its first two words: a table, or a listing or a card of as many bytes at most.
+/// What a request has after its first two words: a table, a time, or a listing or a card of as many bytes at most.
 const ROOM: usize = 20_000;
 
-/// What a listing or a card does not fill is not to be looked at.
+/// What a time, a listing or a card does not fill is not to be looked at.
 fn request(entry: u32, argument: u32, bytes: &[u8]) -> Vec<u8> {
     let mut request = [entry, argument].map(u32::to_be_bytes).concat();
     request.extend(bytes);
@@ -71,7 +71,7 @@ fn row(table: &Table, room: usize) -> String {
     answer + &lines.concat()
 }
 
-/// An output of so many bytes, into which a writer puts what it was asked for, if there is something and it fits.
+/// What is printed of a writer: its answer, or why it has none to give, and then the whole output, of which the first `room` bytes were lent.
 fn filled(written: Result<Vec<u8>, String>, room: usize, short: String) -> Vec<u8> {
     let mut bytes = vec![b'#'; OUTPUT];
     let answer = match written {
@@ -183,7 +183,7 @@ pub fn readings(program: &str) -> bool {
 }
 
 /// A time into an output of every length up to one byte more than its text needs, and into a long one. The whole part has one to seven digits, the
-/// fraction none to three, of which the first ones may be zeros; 62.5 is the time that a clerk once got as 62.005.
+/// fraction none to three, of which the first ones may be zeros.
 pub fn times(program: &str) -> bool {
     let wholes = [0, 2, 9, 10, 62, 99, 100, 999, 1_000, 9_999, 10_000, 99_999, 100_000, 999_999, 1_000_000, 4_294_966];
     let fractions = [0, 1, 5, 9, 10, 50, 99, 100, 205, 500, 900, 990, 999];
