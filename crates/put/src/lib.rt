@@ -179,7 +179,8 @@ pub fn put_count(out: &mut [u8], n: u32) -> Put
     Put::Wrote(k)
 }
 
-// A time at the start of out. Its length is known before a byte is stored, so that each goes straight to its place.
+// A time at the start of out. Its length is known before a byte is stored, so that each goes straight to its place. Of the fraction no more than
+// its thousandths is kept meanwhile: a register that has to be saved is stack too.
 pub fn put_time(out: &mut [u8], us: u32) -> Put
     ensures { λ r. ⌜ (r ≡ putAnswer (timeText us) (now (out .entry))) × (now (out .exit) ≡ putInto (timeText us) (now (out .entry))) ⌝ }
 {
