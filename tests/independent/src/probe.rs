@@ -85,6 +85,7 @@ fn filled(written: Result<Vec<u8>, String>, room: usize, short: String) -> Vec<u
     [answer.into_bytes(), bytes].concat()
 }
 
+/// The same of a writer of tables, which checks its table first.
 fn output(table: &Table, room: usize, write: fn(&Table) -> Vec<u8>) -> Vec<u8> {
     let written = table.check().map(|()| write(table)).map_err(refused);
     filled(written, room, refused((11, 0)))
