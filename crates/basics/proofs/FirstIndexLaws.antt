@@ -5,7 +5,7 @@ use mathlib.Core.Path.{_≡_, refl, ap, _∙_}
 use mathlib.Core.Bool.{Bool, true, false}
 use native.Mathlib.Nat.{le-refl, not-suc-le-zero}
 use native.Mathlib.Numerals.{add-one}
-use native.Mathlib.Decide.{ℕ-discrete}
+use native.Mathlib.Decide.{ℕ-discrete, decLt}
 use native.Mathlib.Omega.{arith}
 use borrow.Author.Tests.{lt-ltb, le-ltb}
 use lib.Dec.{ltb}
@@ -61,3 +61,25 @@ pub first-is : (n : ℕ) (p : ℕ → Bool) → First n p (firstTo n p)
 unfolding firstTo
 first-is zero p = record { upto = le-refl 0; clear = λ j k. absurd (not-suc-le-zero k); found = λ k. absurd (not-suc-le-zero k) }
 first-is (suc n) p = first-step n (firstTo n p) p refl (first-is n p) (ℕ-discrete (firstTo n p) n) (p n) refl
+
+-- and nothing else is
+pub first-by : (n : ℕ) (p : ℕ → Bool) (f : ℕ) → First n p f → firstTo n p ≡ f
+first-by n p f w = go (decLt f (firstTo n p)) (decLt (firstTo n p) f)
+  where
+    v : First n p (firstTo n p)
+    v = first-is n p
+
+    go : Dec (f < firstTo n p) → Dec (firstTo n p < f) → firstTo n p ≡ f
+    go (yes d) e = let a = v .clear f d in let b = w .found (omega (arith, v .upto)) in let z : _≡_ {A = ℕ} 0 1 = cc in absurd (omega arith)
+    go (no d) (yes e) = let a = w .clear (firstTo n p) e in let b = v .found (omega (arith, w .upto)) in let z : _≡_ {A = ℕ} 0 1 = cc in absurd (omega arith)
+    go (no d) (no e) = omega arith
+
+-- nothing found so far, but here
+pub first-here : (n k : ℕ) (p : ℕ → Bool) → k < n → firstTo k p ≡ k → p k ≡ true → firstTo n p ≡ k
+first-here n k p h e f = first-by n p k (record { upto = omega arith; clear = (rw e at (first-is k p)) .clear; found = λ _. f })
+
+-- tests that agree below n
+pub first-eq : (n : ℕ) (p q : ℕ → Bool) → ((k : ℕ) → k < n → p k ≡ q k) → firstTo n p ≡ firstTo n q
+first-eq n p q each =
+    let w = first-is n q in
+    first-by n p (firstTo n q) (record { upto = w .upto; clear = λ j h. each j (omega (arith, w .upto)) ∙ w .clear j h; found = λ h. each (firstTo n q) h ∙ w .found h })

@@ -3,7 +3,9 @@
 --   SumLaws          sum-none, sum-more, sum-le, sum-rises, sum-part, sum-bound, sum-eq, sum-one, sum-add, sum-some, sum-wider
 --   MaxLaws          max-more, max-bound, max-le, max-rises, max-wider
 --   AllLaws          all-none, all-more, all-at, all-fails, all-hold, all-zero
---   FirstIndexLaws   first-none, first-more, First, first-is
+--   FirstIndexLaws   first-none, first-more, First, first-is, first-by, first-here, first-eq
+--   CountLaws        count-on, count-off, count-none, count-some, sum-ones, sum-swap, count-number
+--   OnceLaws         both, and-both, pick-is, is-pick, some-count, first-below; Once, first-once, count-once, once-count
 --   JoinLaws         join-none, join-more, join-length, join-room, join-eq, join-bound, join-even, join-at, join-from
 --   RowLaws          row-length, row-at, row-is, row-eq; over-length, over-none, over-more, over-same
 --   FillLaws         restAt, backAt, whole-part, rest-length, back-plain, back-length; Filled, filled-none, filled-bytes, filled-part, filled-byte,
@@ -13,6 +15,8 @@ pub mod SumLaws
 pub mod MaxLaws
 pub mod AllLaws
 pub mod FirstIndexLaws
+pub mod CountLaws
+pub mod OnceLaws
 pub mod JoinLaws
 pub mod RowLaws
 pub mod FillLaws

@@ -1,6 +1,6 @@
 -- The words that definitions are made of.
 --   Choice   pick, only, within
---   Over     sumTo, maxTo, allTo, firstTo, joinTo, rowTo: over the indices below n
+--   Over     sumTo, countTo, maxTo, allTo, firstTo, joinTo, rowTo: over the indices below n
 --   Text     bytes "cpus 2\n", putInto, lineOf
 --   Exactly  _exactly-if_
 --   Determined   when a contract determines the answer

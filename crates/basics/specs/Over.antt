@@ -3,12 +3,16 @@ use Prim.Native.Nat.{ℕ, zero, suc, _+_, max}
 use mathlib.Core.Bool.{Bool, true, _&&_}
 use mathlib.Core.List.{List, [], _∷_, _++_}
 use lib.Dec.{ltb}
-use Rattle.basics.specs.Choice.{pick}
+use Rattle.basics.specs.Choice.{pick, only}
 
 -- the sum of g 0, .., g (n − 1)
 unfoldable pub sumTo : ℕ → (ℕ → ℕ) → ℕ
 sumTo zero g = 0
 sumTo (suc n) g = sumTo n g + g n
+
+-- how many indices below n pass the test
+abbrev pub countTo : ℕ → (ℕ → Bool) → ℕ
+countTo n p = sumTo n (λ k. only (p k) 1)
 
 -- the largest of g 0, .., g (n − 1), 0 if there is none
 unfoldable pub maxTo : ℕ → (ℕ → ℕ) → ℕ

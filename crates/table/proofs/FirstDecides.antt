@@ -15,7 +15,7 @@ use Rattle.basics.specs.Choice.{within}
 use Rattle.basics.specs.Exactly.{_exactly-if_}
 use Rattle.basics.proofs.ChoiceLaws.{within-low, within-high, within-in}
 use Rattle.table.specs.declared.Fault.{Fault}
-use Rattle.table.specs.declared.Fault.the-variants.{TooLong, BadForm, BadField, OutOfRange, BadTimes, NotRising, BadTotals, TooManyTasks, NoTask, UnknownTask, TooShort, BadLength, BadBlock, Mismatch}
+use Rattle.table.specs.declared.Fault.the-variants.{TooLong, BadForm, BadField, OutOfRange, BadTimes, NotRising, BadTotals, TooManyTasks, NoTask, UnknownTask, TooShort, BadLength, BadBlock, Mismatch, BadCard}
 use Rattle.table.specs.declared.Checked.{Checked}
 use Rattle.table.specs.declared.Checked.the-variants.{Fine, Refused}
 use Rattle.table.specs.Faults.{numberOf, Refuses, _then_, unless, firstFault}
@@ -25,7 +25,7 @@ use Rattle.table.proofs.FirstLaws.{first-at, first-fine, each-fine}
 
 faults : List Fault
 faults =
-    TooLong ∷ BadForm ∷ BadField ∷ OutOfRange ∷ BadTimes ∷ NotRising ∷ BadTotals ∷ TooManyTasks ∷ NoTask ∷ UnknownTask ∷ TooShort ∷ BadLength ∷ BadBlock ∷ Mismatch ∷ []
+    TooLong ∷ BadForm ∷ BadField ∷ OutOfRange ∷ BadTimes ∷ NotRising ∷ BadTotals ∷ TooManyTasks ∷ NoTask ∷ UnknownTask ∷ TooShort ∷ BadLength ∷ BadBlock ∷ Mismatch ∷ BadCard ∷ []
 
 abbrev faultOf : ℕ → Fault
 faultOf k = getD faults (pred k) TooLong
@@ -46,6 +46,7 @@ number-back TooShort = refl
 number-back BadLength = refl
 number-back BadBlock = refl
 number-back Mismatch = refl
+number-back BadCard = refl
 
 pub one-number : (a b : Fault) → numberOf a ≡ numberOf b → a ≡ b
 one-number a b e = sym (number-back a) ∙ ap faultOf e ∙ number-back b

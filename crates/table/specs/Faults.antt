@@ -1,9 +1,9 @@
--- Document 01, "Refusals by number", and request 2/12 of document 02: the number of each refusal, and how the first fault decides.
+-- Document 01, "Refusals by number", and requests 2/12 and 5/12 of document 02: the number of each refusal, and how the first fault decides.
 use Prim.Native.Nat.{ℕ, zero, suc}
 use mathlib.Core.Path.{_≡_}
 use mathlib.Core.Bool.{Bool, true, false}
 use Rattle.table.specs.declared.Fault.{Fault}
-use Rattle.table.specs.declared.Fault.the-variants.{TooLong, BadForm, BadField, OutOfRange, BadTimes, NotRising, BadTotals, TooManyTasks, NoTask, UnknownTask, TooShort, BadLength, BadBlock, Mismatch}
+use Rattle.table.specs.declared.Fault.the-variants.{TooLong, BadForm, BadField, OutOfRange, BadTimes, NotRising, BadTotals, TooManyTasks, NoTask, UnknownTask, TooShort, BadLength, BadBlock, Mismatch, BadCard}
 use Rattle.table.specs.declared.Refusal.{Refusal}
 use Rattle.table.specs.declared.Checked.{Checked}
 use Rattle.table.specs.declared.Checked.the-variants.{Fine, Refused}
@@ -29,14 +29,16 @@ numberOf TooManyTasks = 8
 numberOf NoTask = 9
 -- the task asked about is 0 or above n
 numberOf UnknownTask = 10
--- output, or row of verdicts, too short
+-- output, list, or row of verdicts, too short
 numberOf TooShort = 11
 -- an archive's length not 1 to 32 whole blocks
 numberOf BadLength = 12
 -- a block with a wrong check, mark, version or zero
 numberOf BadBlock = 13
--- a block's processors or n not block 1's, n not the number of blocks, or its task number not its position
+-- a block's processors or n not block 1's, n not the number of blocks, or its task number not its position; of a card with bad blocks, no complete archive
 numberOf Mismatch = 14
+-- a card with bad blocks whose length is not 1 to 64 whole blocks
+numberOf BadCard = 15
 
 -- a refusal told by its number and its place
 pub record Told (r : Refusal) (k p : ℕ) : Type 0 where

@@ -46,6 +46,7 @@ pub enum Fault {
     BadLength,
     BadBlock,
     Mismatch,
+    BadCard,
 }
 
 // A fault, and where it was found: a line, a task, or a block of an archive.
@@ -91,6 +92,7 @@ impl Fault {
             Fault::BadLength => 12,
             Fault::BadBlock => 13,
             Fault::Mismatch => 14,
+            Fault::BadCard => 15,
         }
     }
 }

@@ -1,0 +1,73 @@
+-- How many of the indices below n pass a test; and that numbers from 1 to n, each once, are n.
+-- Assumes nothing.
+use Prim.Native.Nat.{ℕ, zero, suc, _+_, _<_}
+use mathlib.Core.Path.{_≡_, refl, sym}
+use mathlib.Core.Bool.{Bool, true, false, _&&_}
+use native.Mathlib.Nat.{le-refl}
+use native.Mathlib.Omega.{arith}
+use native.Mathlib.Decide.{decLt, ℕ-discrete}
+use borrow.Author.Tests.{eq-eqb, ne-eqb}
+use lib.Dec.{eqb}
+use Rattle.basics.specs.Choice.{only, within}
+use Rattle.basics.specs.Over.{sumTo, countTo, firstTo}
+use Rattle.basics.proofs.ChoiceLaws.{within-in, within-low, within-high}
+use Rattle.basics.proofs.SumLaws.{sum-add}
+use Rattle.basics.proofs.FirstIndexLaws.{first-is}
+
+-- one more where the test holds, and else none
+pub count-on : (b : Bool) (x : ℕ) {y : ℕ} → b ≡ true → y ≡ x + 1 → y ≡ x + only b 1
+count-on b x e f = rw e (omega arith)
+
+pub count-off : (b : Bool) (x : ℕ) {y : ℕ} → b ≡ false → y ≡ x → y ≡ x + only b 1
+count-off b x e f = rw e (omega arith)
+
+-- ---- none, and one at least
+
+pub count-none : (n : ℕ) (q : ℕ → Bool) → ((i : ℕ) → i < n → q i ≡ false) → countTo n q ≡ 0
+unfolding sumTo
+count-none zero q each = refl
+count-none (suc n) q each = rw (count-none n q (λ i h. each i (omega arith)), each n (le-refl (suc n)))
+
+pub count-some : (n : ℕ) (q : ℕ → Bool) → 0 < countTo n q → firstTo n q < n
+count-some n q h = go (decLt (firstTo n q) n)
+  where
+    go : Dec (firstTo n q < n) → firstTo n q < n
+    go (yes d) = d
+    go (no d) = let w = first-is n q in absurd (omega (arith, count-none n q (λ i l. w .clear i (omega arith))))
+
+-- ---- a sum of sums, either way
+
+sum-zeros : (n : ℕ) → sumTo n (λ _. 0) ≡ 0
+unfolding sumTo
+sum-zeros zero = refl
+sum-zeros (suc n) = rw (sum-zeros n)
+
+pub sum-ones : (n : ℕ) → sumTo n (λ _. 1) ≡ n
+unfolding sumTo
+sum-ones zero = refl
+sum-ones (suc n) = omega (arith, sum-ones n)
+
+pub sum-swap : (m n : ℕ) (f : ℕ → ℕ → ℕ) → sumTo m (λ i. sumTo n (f i)) ≡ sumTo n (λ p. sumTo m (λ i. f i p))
+unfolding sumTo
+sum-swap zero n f = sym (sum-zeros n)
+sum-swap (suc m) n f = rw (sum-swap m n f) (sum-add n (λ p. sumTo m (λ i. f i p)) (f m))
+
+-- ---- a number x is one of 1 to n, once, if it is from 1 to n
+
+pub count-number : (n x : ℕ) (b : Bool) → countTo n (λ p. b && eqb x (p + 1)) ≡ only (b && within 1 n x) 1
+unfolding sumTo
+count-number zero x b = go b (decLt 0 x)
+  where
+    go : (b : Bool) → Dec (0 < x) → 0 ≡ only (b && within 1 0 x) 1
+    go false d = refl
+    go true (yes d) = rw (within-high 1 0 x d)
+    go true (no d) = rw (within-low 1 0 x (omega arith))
+count-number (suc n) x false = omega (arith, count-number n x false)
+count-number (suc n) x true = go (count-number n x true) (ℕ-discrete x (n + 1)) (decLt x 1) (decLt n x)
+  where
+    go : sumTo n (λ p. only (eqb x (p + 1)) 1) ≡ only (within 1 n x) 1 → Dec (x ≡ n + 1) → Dec (x < 1) → Dec (n < x)
+        → sumTo n (λ p. only (eqb x (p + 1)) 1) + only (eqb x (n + 1)) 1 ≡ only (within 1 (suc n) x) 1
+    go before (yes e) l h = rw (before, eq-eqb x (n + 1) e, within-high 1 n x (omega arith), within-in 1 (suc n) x (omega arith) (omega arith))
+    go before (no e) (yes l) h = rw (before, ne-eqb x (n + 1) e, within-low 1 n x l, within-low 1 (suc n) x l)
+    go before (no e) (no l) (yes h) = rw (before, ne-eqb x (n + 1) e, within-high 1 n x h, within-high 1 (suc n) x (omega arith))
+    go before (no e) (no l) (no h) = rw (before, ne-eqb x (n + 1) e, within-in 1 n x (omega arith) (omega arith), within-in 1 (suc n) x (omega arith) (omega arith))
