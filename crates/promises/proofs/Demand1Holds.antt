@@ -29,9 +29,13 @@ use Rattle.block.specs.Block.{blockSize}
 use Rattle.card.specs.Archive.{archivingFault, archiving}
 use Rattle.card.proofs.Determined.{read-determined as card-read-determined, write-determined as card-write-determined}
 use Rattle.release.proofs.Called.{archive-empty, refused-as-called as archive-refused}
+use Rattle.salvaging.specs.Salvage.{salvaged}
+use Rattle.salvaging.proofs.Determined.{code-determined, blocks-of-determined, salvage-determined}
+use Rattle.recovery.proofs.Called.{salvaged-as-called}
+use Rattle.recovery.proofs.Listed.{list-kept, list-written}
 use Rattle.analysis.specs.Answers.{boundFault, analysisFault, recordCount, analysed}
 use Rattle.analysis.proofs.Determined.{bound-determined, analyse-all-determined, analyse-determined}
-use Rattle.promises.specs.Demand1.{Entries, Determines, Keeps, FirstDecides, Demand1}
+use Rattle.promises.specs.Demand1.{Entries, Determines, Keeps, KeepsOrLists, FirstDecides, Demand1}
 
 entries : Entries
 entries =
@@ -44,6 +48,11 @@ entries =
       card-read = λ κs a r x p. p;
       card-write-answers = λ κs a r x p. p .0;
       card-write-leaves = λ κs a r x p. p .1;
+      code = λ a r x p. p;
+      blocks-of = λ a r x p. p;
+      salvage-answers = λ κs a r x p. p .0;
+      salvage-lists = λ κs a r x p. p .1;
+      salvage-leaves = λ κs a r x p. p .2;
       bound = λ a r x p. p;
       analyse = λ 𝓤 H A mem run κs a r x. id⊢ 𝓤 _;
       analyse-all = λ a r x p. λ j. record { answer = p .0 j; rows = p .1 j };
@@ -80,6 +89,9 @@ determines =
       task-of = task-of-determined;
       card-read = card-read-determined;
       card-write = card-write-determined;
+      code = code-determined;
+      blocks-of = blocks-of-determined;
+      salvage = salvage-determined;
       bound = bound-determined;
       verdict-of = verdict-of-determined;
       shares-of = shares-of-determined;
@@ -101,6 +113,10 @@ keeps =
       card = archive-empty;
     }
 
+keeps-or-lists : KeepsOrLists
+unfolding salvaged
+keeps-or-lists = record { output = λ s entries out r e. rw e; list-kept = list-kept; list-written = list-written }
+
 -- ---- the first rule that fails decides
 
 first-decides : FirstDecides
@@ -110,6 +126,7 @@ first-decides =
       numbers = one-number;
       listing = refused-as-called;
       card = archive-refused;
+      salvage = salvaged-as-called;
       rule = rule-decides;
       two = two-decide;
       many = many-decide;
@@ -121,4 +138,4 @@ first-decides =
     }
 
 pub demand1 : Demand1
-demand1 = record { entries = entries; determines = determines; keeps = keeps; first-decides = first-decides }
+demand1 = record { entries = entries; determines = determines; keeps = keeps; keeps-or-lists = keeps-or-lists; first-decides = first-decides }

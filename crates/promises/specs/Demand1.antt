@@ -1,9 +1,9 @@
 -- Demand 1: every input gets an answer that the contract determines; a refusal is given exactly when its rule is the first that fails,
--- and then everything lent holds what it held. (That each function answers at all, and does nothing undefined, is what the checker proves of every function.)
+-- and then everything lent holds what it held, with one amendment: of a card with bad blocks the list is written unless 15 or 11 is given. (That each function answers at all, and does nothing undefined, is what the checker proves of every function.)
 use Prim.Native.Nat.{ℕ, _*_, _<_}
 use mathlib.Core.Path.{_≡_}
 use mathlib.Core.Bool.{Bool, false}
-use mathlib.Core.List.{List}
+use mathlib.Core.List.{List, _++_}
 use mathlib.Core.Logic.{_⊎_}
 use contract.Lifetimes.{Lfts}
 use contract.Monad.{Fun, fact}
@@ -15,7 +15,7 @@ use prog.Wp.{Heap}
 use ghost.Atoms.{Atoms}
 use denote.Triple.Entry.{Args}
 use denote.Triple.Clauses.{AtExit}
-use lib.ListN.{length}
+use lib.ListN.{length, drop}
 use Rattle.basics.specs.Text.{putInto}
 use Rattle.basics.specs.Exactly.{_exactly-if_}
 use Rattle.basics.specs.Determined.{Determined, DeterminedWith}
@@ -38,6 +38,9 @@ use Rattle.writing.specs.Write.{textOf, writeFault, writeAnswer, written}
 use Rattle.block.specs.Block.{blockSize}
 use Rattle.card.specs.Archive.{archivingFault, archivingAnswer, archiving, readArchive}
 use Rattle.release.specs.Refusals.{RefusedAsCalled as CardRefusedAsCalled}
+use Rattle.salvaging.specs.Fates.{codeOf, codesOf}
+use Rattle.salvaging.specs.Salvage.{blocksOf, salvageFault, salvageAnswer, listed, salvaged}
+use Rattle.recovery.specs.Refusals.{SalvagedAsCalled}
 use Rattle.analysis.specs.declared.Record.{Record}
 use Rattle.analysis.specs.Answers.{boundFault, boundOf, analysisFault, analysed, FillsRow}
 use Rattle.table.proofs.Fault.number.Reads as number
@@ -68,6 +71,9 @@ use Rattle.block.proofs.head_of.Reads as head-of
 use Rattle.block.proofs.task_of.Reads as task-of
 use Rattle.card.proofs.write.Reads as card-write
 use Rattle.card.proofs.read.Reads as card-read
+use Rattle.salvaging.proofs.Fate.code.Reads as code
+use Rattle.salvaging.proofs.blocks_of.Reads as blocks-of
+use Rattle.salvaging.proofs.salvage.Reads as salvage
 use Rattle.rounds.proofs.verdict_of.Reads as verdict-of
 use Rattle.shares.proofs.shares_of.Reads as shares-of
 use Rattle.analysis.proofs.analyse as analyse
@@ -86,6 +92,11 @@ pub record Entries : Type 2 where
   pub card-read : (κs : Lfts 1) → Answers (card-read.Learnt κs) (λ a. readArchive (a .0 .now))
   pub card-write-answers : (κs : Lfts 1) → Answers (card-write.Learnt κs) (λ a. archivingAnswer (a .0) (length (a .1 .0 .now)))
   pub card-write-leaves : (κs : Lfts 1) → Leaves (λ x. x .1 .0 .now) (card-write.Learnt κs) (λ a. archiving (a .0) (a .1 .0 .now))
+  pub code : Answers (code.Learnt tt) (λ a. codeOf (a .0))
+  pub blocks-of : Answers (blocks-of.Learnt tt) (λ a. blocksOf (a .0))
+  pub salvage-answers : (κs : Lfts 3) → Answers (salvage.Learnt κs) (λ a. salvageAnswer (a .0 .now) (length (a .1 .0 .now)) (length (a .1 .1 .0 .now)))
+  pub salvage-lists : (κs : Lfts 3) → Leaves (λ x. x .1 .0 .now) (salvage.Learnt κs) (λ a. listed (a .0 .now) (a .1 .0 .now) (length (a .1 .1 .0 .now)))
+  pub salvage-leaves : (κs : Lfts 3) → Leaves (λ x. x .1 .1 .0 .now) (salvage.Learnt κs) (λ a. salvaged (a .0 .now) (length (a .1 .0 .now)) (a .1 .1 .0 .now))
   pub bound : Answers (bound.Learnt tt) (λ a. boundOf (a .0) (a .1 .0))
   -- `analyse` is walked by hand, and the checker makes no `Learnt` of it: this is its `ensures` itself, as the checker has it, at any arguments a, answer r
   -- and arguments at exit x; it says that the row is filled
@@ -125,6 +136,9 @@ pub record Determines : Type 0 where
   pub task-of : (κs : Lfts 1) → Determined (task-of.Learnt κs)
   pub card-read : (κs : Lfts 1) → Determined (card-read.Learnt κs)
   pub card-write : (κs : Lfts 1) → DeterminedWith (λ x. x .1 .0 .now) (card-write.Learnt κs)
+  pub code : Determined (code.Learnt tt)
+  pub blocks-of : Determined (blocks-of.Learnt tt)
+  pub salvage : (κs : Lfts 3) → DeterminedWith {H = List ℕ × List ℕ} (λ x. (x .1 .0 .now, x .1 .1 .0 .now)) (salvage.Learnt κs)
   pub bound : Determined (bound.Learnt tt)
   pub verdict-of : Determined (verdict-of.Learnt tt)
   pub shares-of : Determined (shares-of.Learnt tt)
@@ -144,6 +158,15 @@ pub record Keeps : Type 0 where
   pub archiving : (t : Table) (out : List ℕ) (r : Refusal) → archivingFault t (length out) ≡ Refused r → archiving t out ≡ out
   pub card : (a : List ℕ) (r : Refusal) → readArchive a .answer ≡ Refused r → readArchive a .table ≡ emptyTable
 
+-- request 5/12 of document 02 amends this for the tool that mends cards: "After 14 or the table's own the list alone is written". In words: after 15 and 11 the list and the output
+-- are as they were; after 14 and the table's own the output is, and the list has an entry for each block, and past them what it had, as it has where nothing is refused
+pub record KeepsOrLists : Type 0 where
+  pub output : (s : List ℕ) (entries : ℕ) (out : List ℕ) (r : Refusal) → salvageFault s entries (length out) ≡ Refused r → salvaged s entries out ≡ out
+  pub list-kept : (s list : List ℕ) (room place : ℕ)
+      → Refuses (salvageFault s (length list) room) 15 place ⊎ Refuses (salvageFault s (length list) room) 11 place → listed s list room ≡ list
+  pub list-written : (s list : List ℕ) (room : ℕ) → (Refuses (salvageFault s (length list) room) 15 0 → ⊥) → (Refuses (salvageFault s (length list) room) 11 0 → ⊥)
+      → listed s list room ≡ codesOf s ++ drop (length (codesOf s)) list
+
 -- ---- a refusal is given, with its number and place, exactly when its rule is the first that fails (`Refuses c k p`: the check c refuses with the number k, at the place p)
 
 pub record FirstDecides : Type 0 where
@@ -153,6 +176,8 @@ pub record FirstDecides : Type 0 where
   pub listing : RefusedAsCalled
   -- an archive: 12, 13 and 14, and then the table's own
   pub card : CardRefusedAsCalled
+  -- a card with bad blocks: 15, 11 and 14, and then the table's own; and what becomes of each block
+  pub salvage : SalvagedAsCalled
   -- of a table: one rule, two rules after each other, and the rules of n things
   pub rule : (test : Bool) (fault : Fault) (place : ℕ) → Refuses (unless test fault place) (numberOf fault) place exactly-if (test ≡ false)
   pub two : (a b : Checked) (k p : ℕ) → Refuses (a then b) k p exactly-if (Refuses a k p ⊎ ((a ≡ Fine) × Refuses b k p))
@@ -170,4 +195,5 @@ pub record Demand1 : Type 2 where
   pub entries : Entries
   pub determines : Determines
   pub keeps : Keeps
+  pub keeps-or-lists : KeepsOrLists
   pub first-decides : FirstDecides

@@ -5,6 +5,7 @@
 --   Decimals  request 1/12: which fields are times of up to six decimals, and on which side of what was typed each figure lies
 --   Archives  request 2/12: writing and reading an archive undo each other, one archive for one table, and a changed byte is noticed
 --   Window    request 3/12: no workload is more than t in a window of t, none falls as x grows, and every bound is kept or smaller
+--   Salvages  request 5/12: what is made of a card with bad blocks is an archive, nothing is invented, and a spoiled card gives its archive back
 --   Points    the paper's points marked P, two of them as request 3/12 has them
 --   Words     what these are made of
 pub mod Words
@@ -14,4 +15,5 @@ pub mod Demand3
 pub mod Decimals
 pub mod Archives
 pub mod Window
+pub mod Salvages
 pub mod Points
