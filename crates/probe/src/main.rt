@@ -1,4 +1,4 @@
-// A test program: hands a raw table of any numbers to one entry point of the library, a listing or an archive to its reader, or a time to its writer, and prints the answer and all that was lent.
+// A test program: hands a raw table of any numbers to one entry point of the library, a listing or an archive to its reader, a time to its writer, or a card to the tool for bad blocks, and prints the answer and all that was lent.
 // docs/PROBE.md describes its input. Its contracts say nothing: it is for comparing, and what it calls is proved elsewhere.
 ghost use Prim.Native.Nat.{_≤_};
 ghost use lib.ListN.{length};
@@ -26,13 +26,21 @@ const WORDS: usize = 5 + Table::MAX_TASKS * TASK;
 const INPUT: usize = 8;
 
 // The bytes of a request.
-const BYTES: usize = INPUT + 20_000;
+const BYTES: usize = INPUT + 34_000;
+
+// Where a card with bad blocks begins: after the room for its list and the room for its archive as well.
+const CARD: usize = 16;
 
 // The records of the row that is lent, or of which the front is lent.
 const ROWS: usize = 40;
 
 // The bytes of the output that is lent, or of which the front is lent.
 const OUTPUT: usize = 20_000;
+
+// The entries of the list, and the bytes of the output, that are lent for a card with bad blocks, or of which the front is lent.
+const LIST: usize = 70;
+
+const MENDED: usize = 34_000;
 
 struct Lent {
     answer: Checked,
@@ -230,6 +238,15 @@ fn time_into(us: u32, out: &mut [u8], room: usize)
     say(out);
 }
 
+// The fronts of a list and of an output, lent to the tool for cards with bad blocks; then the answer, all of the list, and all of the output.
+fn salvage_into(input: &[u8], list: &mut [u8], entries: usize, out: &mut [u8], room: usize)
+    requires { ⌜ (entries ≤ length (now list)) × (room ≤ length (now out)) ⌝ }
+{
+    say_written(salvaging::salvage(input, &mut list[..entries], &mut out[..room]));
+    say(list);
+    say(out);
+}
+
 // Entry point 4: `writing::write`, with an output of so many bytes.
 fn write(t: Table, room: u32) {
     if OUTPUT < room as usize {
@@ -285,6 +302,31 @@ fn unarchive(s: &[u8], length: u32) {
     say_reading(card::read(&s[INPUT..INPUT + length as usize]));
 }
 
+// Entry point 9: `salvaging::salvage`, of a card of so many bytes, with a list of so many entries and an output of so many bytes.
+fn salvage(s: &[u8], length: u32, entries: u32, room: u32) {
+    if s.len() < CARD + length as usize {
+        say(b"bad card\n");
+        return;
+    }
+    if LIST < entries as usize {
+        say(b"bad list\n");
+        return;
+    }
+    if MENDED < room as usize {
+        say(b"bad output\n");
+        return;
+    }
+    let mut list = [b'#'; LIST];
+    let mut out = [b'#'; MENDED];
+    salvage_into(
+        &s[CARD..CARD + length as usize],
+        &mut list,
+        entries as usize,
+        &mut out,
+        room as usize,
+    );
+}
+
 fn main() {
     let mut space = [0u8; BYTES];
     let n = io::read_full(STDIN_FILENO, &mut space);
@@ -303,6 +345,7 @@ fn main() {
         6 => archive(t, argument),
         7 => unarchive(&space, argument),
         8 => put_time(word(&space, 2), argument),
+        9 => salvage(&space, argument, word(&space, 2), word(&space, 3)),
         _ => say(b"bad request\n"),
     }
 }

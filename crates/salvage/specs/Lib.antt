@@ -1,0 +1,3 @@
+-- What the program `salvage` writes.
+--   Telling   the lines that it tells on standard error
+pub mod Telling
