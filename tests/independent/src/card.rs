@@ -86,14 +86,14 @@ pub fn read(bytes: &[u8]) -> Result<Table, Refusal> {
 }
 
 /// What 13 looks at. The check must be the very bytes: FFFF in place of 0000 would do for a sum, but then a table had two archives.
-fn sound(block: &[u8]) -> bool {
+pub fn sound(block: &[u8]) -> bool {
     block[..CPUS_AT] == MARK
         && block[ZEROS_BEFORE..TIMES_AT] == [0; TIMES_AT - ZEROS_BEFORE]
         && block[ZEROS_AFTER..CHECK_AT] == [0; CHECK_AT - ZEROS_AFTER]
         && block[CHECK_AT..] == checksum(&block[..CHECK_AT]).to_be_bytes()
 }
 
-fn task(block: &[u8]) -> Task {
+pub fn task(block: &[u8]) -> Task {
     let mut task = Task { t: four(&block[TIMES_AT..]), c: four(&block[TIMES_AT + 4..]), d: four(&block[TIMES_AT + 8..]), ..Task::default() };
     for (entry, lock) in block[LOCKS_AT..ZEROS_AFTER].chunks_exact(LOCK).zip(&mut task.locks) {
         *lock = Lock { n: u16::from_be_bytes([entry[0], entry[1]]) as u64, c: four(&entry[2..]), ct: four(&entry[6..]) };

@@ -47,14 +47,14 @@ fn set(card: &mut [u8], &(number, at, bytes): &Change) {
 }
 
 /// The card with these changes, and checks that no longer fit.
-fn spoiled(card: &[u8], changes: &[Change]) -> Vec<u8> {
+pub fn spoiled(card: &[u8], changes: &[Change]) -> Vec<u8> {
     let mut card = card.to_vec();
     changes.iter().for_each(|change| set(&mut card, change));
     card
 }
 
 /// The card with these changes, and the check right again in the blocks that they are in.
-fn sealed(card: &[u8], changes: &[Change]) -> Vec<u8> {
+pub fn sealed(card: &[u8], changes: &[Change]) -> Vec<u8> {
     let mut card = spoiled(card, changes);
     for (number, _, _) in changes {
         card::seal(&mut card[(number - 1) * BLOCK..number * BLOCK]);
@@ -63,14 +63,14 @@ fn sealed(card: &[u8], changes: &[Change]) -> Vec<u8> {
 }
 
 /// The card with this byte in every block, and every check right.
-fn throughout(card: &[u8], at: usize, byte: u8) -> Vec<u8> {
+pub fn throughout(card: &[u8], at: usize, byte: u8) -> Vec<u8> {
     let bytes = [byte];
     let changes: Vec<Change> = (1..=card.len() / BLOCK).map(|number| (number, at, &bytes[..])).collect();
     sealed(card, &changes)
 }
 
 /// These blocks of the card, counted from 1, in this order.
-fn blocks(card: &[u8], numbers: &[usize]) -> Vec<u8> {
+pub fn blocks(card: &[u8], numbers: &[usize]) -> Vec<u8> {
     numbers.iter().flat_map(|number| card[(number - 1) * BLOCK..number * BLOCK].to_vec()).collect()
 }
 
@@ -81,7 +81,7 @@ fn raised(mut task: Task, more: u64) -> Vec<u8> {
 }
 
 /// The place in a block of a lock's entry, the locks counted from 1.
-fn entry(k: usize) -> usize {
+pub fn entry(k: usize) -> usize {
     LOCKS_AT + (k - 1) * LOCK
 }
 
@@ -211,12 +211,12 @@ fn orders() -> Vec<Named> {
     ]
 }
 
-/// All cards, in a fixed order. None is longer than a request of the probe has room for.
+/// All cards, in a fixed order.
 pub fn all() -> Vec<Card> {
-    unanswered().into_iter().chain(generated()).collect()
+    unanswered().into_iter().chain(long()).chain(generated()).collect()
 }
 
-/// Fewer of them, with the long ones.
+/// Fewer of them.
 pub fn some() -> Vec<Card> {
     unanswered().into_iter().chain(long()).chain(generated().into_iter().step_by(3)).collect()
 }
@@ -244,7 +244,7 @@ fn accepted(r: &mut Random) -> Vec<Card> {
 }
 
 /// Tables that are not accepted, or only just, as far as they fit a card: what is beyond a field becomes the most that it holds.
-fn beyond(r: &mut Random) -> Vec<Card> {
+pub fn beyond(r: &mut Random) -> Vec<Card> {
     let mut tables = edges::tables();
     tables.extend((0..BEYOND).map(|_| generate::raw_table(r)));
     tables.retain(|table| (1..=TASKS as u64).contains(&table.n));
@@ -442,7 +442,7 @@ fn noise(r: &mut Random) -> Vec<Card> {
     cards
 }
 
-/// Cards for which the probe has no room, about the lengths at which a program's own room may end.
+/// Long cards, about the lengths at which a program's own room may end. For most of them a request of the probe has no room.
 fn long() -> Vec<Card> {
     let all = card::write(&full());
     [40 * BLOCK, 64 * BLOCK, 65_535, 65_536, 65_537, 131_072].map(|length| ("a long card", all.iter().copied().cycle().take(length).collect())).into()

@@ -48,13 +48,20 @@ impl Answer {
         }
     }
 
-    fn wrote(&self, out: &[u8], err: &[u8]) -> bool {
+    /// These bytes on standard output, these on standard error, and exit status 0.
+    pub fn wrote(&self, out: &[u8], err: &[u8]) -> bool {
         let Answer(Output { status, stdout, stderr }) = self;
         status.success() && stdout == out && stderr == err
     }
 
     pub fn output(&self) -> &[u8] {
         &self.0.stdout
+    }
+
+    /// What is not its output: standard error, and how it ended.
+    pub fn end(&self) -> String {
+        let Answer(Output { status, stderr, .. }) = self;
+        format!("{}ended with {status}", String::from_utf8_lossy(stderr))
     }
 }
 

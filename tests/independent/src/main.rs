@@ -3,12 +3,13 @@
 //!     independent report < LISTING          what `report` is to print
 //!     independent archive < LISTING         what `archive` is to write: the card, or a refusal on standard error
 //!     independent unarchive < CARD          what `unarchive` is to write: the listing, or a refusal on standard error
+//!     independent salvage < CARD            what `salvage` is to write: the archive, and on standard error the list and the refusal, if it is one
 //!     independent rounds < LISTING          how many demands the iteration works out, all tasks together
 //!     independent times PROGRAM COMMAND INPUT
 //!                                           the least time of PROGRAM and of COMMAND of this program on INPUT, in microseconds
 //!     independent bench FOLDER              write the benchmark's listings there
 //!     independent story                     the smallest story of request 3/12: a listing, an empty line, and the listing with one task made shorter
-//!     independent compare REPORT PROBE ARCHIVE UNARCHIVE
+//!     independent compare REPORT PROBE ARCHIVE UNARCHIVE SALVAGE
 //!                                           run them on many listings, tables, times and cards and compare; exit 1 on a difference
 
 mod analysis;
@@ -26,10 +27,12 @@ mod probe;
 mod programs;
 mod random;
 mod report;
+mod salvage;
+mod salvages;
 mod story;
 mod table;
 
-use programs::Said;
+use programs::{Both, Said};
 use std::io::{Read, Write};
 use std::process::ExitCode;
 
@@ -40,6 +43,7 @@ fn main() -> ExitCode {
         ["report"] => say(Ok(report::quick(&input()).into_bytes())),
         ["archive"] => say(programs::archive(&input())),
         ["unarchive"] => say(programs::unarchive(&input())),
+        ["salvage"] => say_both(programs::salvage(&input())),
         ["rounds"] => {
             let table = listing::read(&input()).expect("an accepted listing");
             println!("{}", (0..table.n as usize).map(|i| analysis::iterate(&table, i, analysis::By::Capped).1).sum::<u64>());
@@ -59,7 +63,7 @@ fn main() -> ExitCode {
             print!("{}", story::find().join("\n"));
             ExitCode::SUCCESS
         }
-        ["compare", report, probe, archive, unarchive] => {
+        ["compare", report, probe, archive, unarchive, salvage] => {
             points::hold();
             let same = compare::reports(report)
                 && probe::readings(probe)
@@ -67,7 +71,8 @@ fn main() -> ExitCode {
                 && probe::longest_text(report, probe)
                 && probe::times(probe)
                 && probe::archives(probe)
-                && programs::compare(archive, unarchive);
+                && probe::salvages(probe)
+                && programs::compare(archive, unarchive, salvage);
             if same {
                 ExitCode::SUCCESS
             } else {
@@ -75,7 +80,8 @@ fn main() -> ExitCode {
             }
         }
         _ => {
-            eprintln!("usage: independent report | archive | unarchive | rounds | times PROGRAM COMMAND INPUT | bench FOLDER | story | compare REPORT PROBE ARCHIVE UNARCHIVE");
+            eprintln!("usage: independent report | archive | unarchive | salvage | rounds | times PROGRAM COMMAND INPUT | bench FOLDER | story |");
+            eprintln!("       compare REPORT PROBE ARCHIVE UNARCHIVE SALVAGE");
             ExitCode::FAILURE
         }
     }
@@ -90,8 +96,13 @@ fn input() -> Vec<u8> {
 /// The exit status says nothing of a refusal: the proved programs have none to give.
 fn say(said: Said) -> ExitCode {
     match said {
-        Ok(bytes) => std::io::stdout().write_all(&bytes).expect("standard output"),
-        Err(line) => std::io::stderr().write_all(line.as_bytes()).expect("standard error"),
+        Ok(bytes) => say_both((bytes, String::new())),
+        Err(line) => say_both((vec![], line)),
     }
+}
+
+fn say_both((out, err): Both) -> ExitCode {
+    std::io::stdout().write_all(&out).expect("standard output");
+    std::io::stderr().write_all(err.as_bytes()).expect("standard error");
     ExitCode::SUCCESS
 }

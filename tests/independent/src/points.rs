@@ -4,7 +4,7 @@
 use crate::analysis::{demand, terms, uncapped, verdict, verdict_by, workload, By, Terms, Verdict};
 use crate::listing::Round::{Down, Up};
 use crate::table::{Lock, Refusal, Table, Task, TIME};
-use crate::{cap, card, cards, cases, listing, programs, report, story};
+use crate::{cap, card, cards, cases, listing, programs, report, salvage, salvages, story};
 
 /// Stops the comparison if a point fails.
 pub fn hold() {
@@ -22,6 +22,7 @@ pub fn hold() {
     answers();
     cap::hold();
     shortened();
+    salvaged();
     println!("the points of the paper and of the requests hold in this program");
 }
 
@@ -239,4 +240,25 @@ fn shortened() {
     let [before, after] = [[1_000, 6_000, 4_000], [1_000, 5_000, 4_000]].map(|bounds| bounds.map(Verdict::Meets));
     assert_eq!(verdicts(By::Capped), [before, after]);
     assert_eq!(verdicts(By::Uncapped), [before, [after[0], after[1], Verdict::Misses]]);
+}
+
+/// Request 5/12: the named cards are listed and answered as they say, and what the program writes of them.
+fn salvaged() {
+    for salvages::Named { name, card, fates, saved } in salvages::named() {
+        let found = salvage::salvage(&card, salvage::BLOCKS, salvage::BLOCKS * card::BLOCK);
+        let letters: String = found.list.iter().filter_map(|fate| fate.to_string().chars().next()).collect();
+        assert_eq!((letters, found.archive), (fates, saved), "{name}");
+    }
+    let a = cards::archive(cases::CASE_A);
+    let back = cards::blocks(&a, &[3, 2, 1, 1]);
+    let list = "1 moved\n2 kept\n3 moved\n4 doubled\n";
+    assert_eq!(programs::salvage(&back), (a.clone(), list.into()));
+    assert_eq!(programs::salvage(&a[512..]), (vec![], "1 moved\n2 moved\nrefused 14 place 0\n".into()));
+    assert_eq!(programs::salvage(&[0; 512]), (vec![], "1 bad\nrefused 14 place 0\n".into()));
+    assert_eq!(programs::salvage(&a[1..]), (vec![], "refused 15 place 0\n".into()));
+    // room for the archive is not enough, nor for the blocks that are left
+    for (entries, room) in [(3, 2_048), (4, 2_047), (4, 1_536), (3, 1_536), (0, 0)] {
+        assert_eq!(salvage::salvage(&back, entries, room), salvage::Salvaged { list: vec![], archive: Err((11, 0)) });
+    }
+    assert_eq!(salvage::salvage(&back, 4, 2_048).archive, Ok(a));
 }

@@ -1,20 +1,29 @@
 //! Tables handed over directly, by way of the program `probe`: the check, one task's bound, rows and outputs of every length. And listings and
-//! cards: which table each is read as. And times: what is written of each, into outputs of every length.
+//! cards: which table each is read as. And times: what is written of each, into outputs of every length. And damaged cards: what is saved of
+//! each, with lists and outputs of many lengths.
 //! docs/PROBE.md describes its input.
+
+use std::collections::BTreeSet;
 
 use crate::analysis::{self, Verdict};
 use crate::compare::{self, run, Tally};
 use crate::programs::refused;
 use crate::random::Random;
+use crate::salvage::{salvage, Salvaged};
 use crate::table::{Lock, Refusal, Table};
-use crate::{card, cards, edges, generate, listing, report};
+use crate::{card, cards, edges, generate, listing, report, salvages};
 
 const TABLES: u64 = 600;
 const LONG_AMONG_SHORT: u64 = 100;
 const ROWS: usize = 40;
 const OUTPUT: usize = 20_000;
 /// What a request has after its first two words: a table, a time, or a listing or a card of as many bytes at most.
-const ROOM: usize = 20_000;
+const ROOM: usize = 34_000;
+/// The most bytes of a damaged card: two words more come before it.
+const DAMAGED: usize = ROOM - 8;
+/// The list and the output that are lent for a damaged card, or of which the front is lent.
+const LIST: usize = 70;
+const SAVED: usize = 34_000;
 
 /// What a time, a listing or a card does not fill is not to be looked at.
 fn request(entry: u32, argument: u32, bytes: &[u8]) -> Vec<u8> {
@@ -219,7 +228,7 @@ fn card_outcome(read: &Result<Table, Refusal>) -> String {
 /// Cards that are read, and the table that each gives written as a listing.
 pub fn archives(program: &str) -> bool {
     let mut tally = Tally::new();
-    for (name, bytes) in cards::all() {
+    for (name, bytes) in cards::all().into_iter().filter(|(_, bytes)| bytes.len() <= ROOM) {
         let table = card::read(&bytes);
         tally.compared += 1;
         tally.count(card_outcome(&table));
@@ -248,6 +257,105 @@ fn longest_card(program: &str) -> bool {
         println!("card write differs on 32 tasks with 16 locks each, with an output of {unlike:?} bytes");
     }
     unlike.is_empty()
+}
+
+/// What is lent for a damaged card: the entries of a list, and the bytes of an output.
+type Lent = (usize, usize);
+
+/// Lists and outputs that are too short, just long enough, and longer; and an output that has room for the archive, but not for the card.
+fn lendings(card: &[u8]) -> Vec<Lent> {
+    let (count, length) = (card.len() / card::BLOCK, card.len());
+    let archive = salvage(card, LIST, SAVED).archive.map_or(0, |archive| archive.len());
+    let lists = BTreeSet::from([0, count.saturating_sub(1), count, count + 1, LIST]);
+    let rooms = BTreeSet::from([0, length.saturating_sub(1), length, length + 1, SAVED, archive]);
+    lists.iter().flat_map(|entries| rooms.iter().map(|room| (*entries, *room))).collect()
+}
+
+/// For a card without a name: one of those that are enough, and for half of the cards any of them as well.
+fn some_lendings(r: &mut Random, card: &[u8]) -> Vec<Lent> {
+    let all = lendings(card);
+    let enough: Vec<Lent> = all.iter().copied().filter(|&(entries, room)| entries * card::BLOCK >= card.len() && room >= card.len()).collect();
+    let mut some = vec![*r.pick(&enough)];
+    if r.one_in(2) {
+        some.push(*r.pick(&all));
+    }
+    some
+}
+
+/// What is printed of a damaged card: the answer, the list, and the output.
+fn saved(salvaged: &Salvaged) -> Vec<u8> {
+    let mut list = [b'#'; LIST];
+    let mut output = vec![b'#'; SAVED];
+    for (entry, fate) in list.iter_mut().zip(&salvaged.list) {
+        *entry = *fate as u8;
+    }
+    let answer = match &salvaged.archive {
+        Err(refusal) => refused(*refusal),
+        Ok(archive) => {
+            output[..archive.len()].copy_from_slice(archive);
+            format!("wrote {}\n", archive.len())
+        }
+    };
+    [answer.as_bytes(), &list, &output].concat()
+}
+
+/// The same for a reader: the list by its numbers, and the output as far as anything was written.
+fn saved_text(printed: &[u8]) -> String {
+    let line = printed.iter().position(|&b| b == b'\n').map_or(printed.len(), |at| at + 1);
+    let (answer, lent) = printed.split_at(line);
+    let (list, output) = lent.split_at(LIST.min(lent.len()));
+    let written = output.iter().rposition(|&b| b != b'#').map_or(0, |last| last + 1);
+    format!("{}the list {list:?}\nthe output {}", String::from_utf8_lossy(answer), cards::dump(&output[..written]))
+}
+
+/// Why 11 is given. An output with room for the archive alone is not enough.
+fn shortage(card: &[u8], (entries, room): Lent) -> &'static str {
+    let archive = salvage(card, LIST, SAVED).archive;
+    match (entries * card::BLOCK < card.len(), room < card.len()) {
+        (true, false) => "the list is short",
+        (true, true) => "both are short",
+        _ if archive.is_ok_and(|archive| archive.len() <= room) => "the output is short, but not for the archive",
+        _ => "the output is short",
+    }
+}
+
+/// Whether the probe says this of a damaged card.
+fn alike(program: &str, name: &str, card: &[u8], (entries, room): Lent, salvaged: &Salvaged) -> bool {
+    let words = [entries, room].map(|word| (word as u32).to_be_bytes()).concat();
+    let expected = saved(salvaged);
+    let found = run(program, &request(9, card.len() as u32, &[&words, card].concat()));
+    let same = found.is(&expected);
+    if !same {
+        println!("salvage with a list of {entries} entries and an output of {room} bytes differs: {name}\n{}", cards::dump(card));
+        println!("here:\n{}\n{program}:\n{}\n{}", saved_text(&expected), saved_text(found.output()), found.end());
+    }
+    same
+}
+
+/// Damaged cards: what is answered, and the whole list and the whole output afterwards.
+pub fn salvages(program: &str) -> bool {
+    let (mut tally, mut fates) = (Tally::new(), Tally::new());
+    let mut r = Random::new(9);
+    let named = salvages::named().into_iter().map(|named| (lendings(&named.card), named.name, named.card));
+    let fitting = salvages::generated().into_iter().filter(|(_, card)| card.len() <= DAMAGED);
+    let others = fitting.map(|(name, card)| (some_lendings(&mut r, &card), name, card));
+    for (all, name, card) in named.chain(others) {
+        for lent in all {
+            let salvaged = salvage(&card, lent.0, lent.1);
+            if !alike(program, name, &card, lent, &salvaged) {
+                return false;
+            }
+            let outcome = salvages::outcome(&card, &salvaged.archive);
+            tally.count(if outcome == "refused 11" { format!("{outcome}, {}", shortage(&card, lent)) } else { outcome });
+            salvages::count_fates(&mut fates, &salvaged.list);
+        }
+        tally.compared += 1;
+    }
+    tally.print(&format!("damaged cards: {} compared, {} calls", tally.compared, tally.answers()));
+    fates.print("in their lists");
+    let short = ["the list is short", "the output is short", "both are short", "the output is short, but not for the archive"];
+    let wanted: Vec<String> = salvages::wanted().into_iter().chain(short.map(|why| format!("refused 11, {why}"))).collect();
+    tally.covers(&wanted) && fates.covers(&salvages::all_fates())
 }
 
 /// No accepted table has a longer text: every pair in use, each number as long as it can be written. Of 16 totals that a run time of

@@ -1,8 +1,9 @@
-//! What the programs `archive` and `unarchive` are to write, and both held to it.
+//! What the programs `archive`, `unarchive` and `salvage` are to write, and each held to it.
 
 use crate::compare::{self, run, Tally};
+use crate::salvage::{self, Salvaged, BLOCKS};
 use crate::table::Refusal;
-use crate::{card, cards, cases, listing, report};
+use crate::{card, cards, cases, listing, report, salvages};
 
 /// Of the listings that were generated, one in so many is archived: the reports and readings have them all.
 const ONE_IN: usize = 20;
@@ -18,13 +19,35 @@ pub fn unarchive(bytes: &[u8]) -> Said {
     card::read(bytes).map(|table| listing::write(&table).into_bytes()).map_err(refused)
 }
 
+/// What goes to standard output, and what to standard error, of a program that writes to both.
+pub type Both = (Vec<u8>, String);
+
+pub fn salvage(bytes: &[u8]) -> Both {
+    both(lend_enough(bytes))
+}
+
+/// There is room for every card, so that 11 never comes up.
+fn lend_enough(bytes: &[u8]) -> Salvaged {
+    salvage::salvage(bytes, BLOCKS, BLOCKS * card::BLOCK)
+}
+
+/// The archive, and beside it the list and then the refusal, if it is one.
+fn both(Salvaged { list, archive }: Salvaged) -> Both {
+    let mut lines: String = (1..).zip(&list).map(|(position, fate)| format!("{position} {fate}\n")).collect();
+    let archive = archive.unwrap_or_else(|refusal| {
+        lines.push_str(&refused(refusal));
+        vec![]
+    });
+    (archive, lines)
+}
+
 /// The refusal of a card or of a table that is handed over, which have places and no lines.
 pub fn refused((number, place): Refusal) -> String {
     format!("refused {number} place {place}\n")
 }
 
-pub fn compare(archive: &str, unarchive: &str) -> bool {
-    archives(archive) && unarchives(unarchive) && there_and_back(archive, unarchive)
+pub fn compare(archive: &str, unarchive: &str, salvage: &str) -> bool {
+    archives(archive) && unarchives(unarchive) && there_and_back(archive, unarchive) && salvages(salvage)
 }
 
 fn outcome(said: &Said) -> String {
@@ -67,6 +90,26 @@ fn unarchives(program: &str) -> bool {
     }
     tally.print(&format!("cards unarchived: {} compared", tally.compared));
     tally.covers(&wanted(&[4, 5, 7, 12, 13, 14]))
+}
+
+fn salvages(program: &str) -> bool {
+    let (mut tally, mut fates) = (Tally::new(), Tally::new());
+    for (name, bytes) in salvages::all() {
+        let salvaged = lend_enough(&bytes);
+        tally.compared += 1;
+        tally.count(salvages::outcome(&bytes, &salvaged.archive));
+        salvages::count_fates(&mut fates, &salvaged.list);
+        let (archive, lines) = both(salvaged);
+        let found = run(program, &bytes);
+        if !found.wrote(&archive, lines.as_bytes()) {
+            println!("{program} differs on a card: {name}\n{}here:\n{}{lines}", cards::dump(&bytes), cards::dump(&archive));
+            println!("there:\n{}{}", cards::dump(found.output()), found.end());
+            return false;
+        }
+    }
+    tally.print(&format!("cards salvaged: {} compared", tally.compared));
+    fates.print("in their lists");
+    tally.covers(&salvages::wanted()) && fates.covers(&salvages::all_fates())
 }
 
 fn shown(said: &Said) -> String {
