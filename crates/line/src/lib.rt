@@ -7,7 +7,7 @@ ghost use lib.Dec.{eqb, ltb};
 ghost use Rattle.basics.specs.Text.{bytes};
 ghost use Rattle.table.specs.Limits.{maxTasks};
 ghost use Rattle.table.specs.declared.Fault.the-variants.{TooManyTasks};
-ghost use Rattle.table.specs.Faults.{_then_, unless};
+ghost use Rattle.table.specs.Faults.{unless};
 ghost use Rattle.field.specs.Number.{first};
 ghost use Rattle.field.specs.declared.Field.the-variants.{Value};
 ghost use Rattle.field.specs.declared.Rounding.the-variants.{Down, Up};
@@ -149,16 +149,6 @@ fn cpus_of(number: u32, m: u32) -> Said
     Said::Cpus(m)
 }
 
-// The first of two checks that has something against the line.
-fn first_of(a: Checked, b: Checked) -> Checked
-    ensures { λ r. ⌜ r ≡ (a then b) ⌝ }
-{
-    if let Checked::Refused(r) = a {
-        return Checked::Refused(r);
-    }
-    b
-}
-
 // 8, of a task after so many.
 fn room_after(tasks: usize, number: u32) -> Checked
     ensures { λ r. ⌜ r ≡ unless (ltb tasks maxTasks) TooManyTasks number ⌝ }
@@ -178,7 +168,7 @@ fn task_of(past: Past, number: u32, period: u32, run: u32, deadline: u32) -> Sai
 {
     let room = room_after(past.tasks, number);
     let times = rules::times(number, period, run, deadline);
-    if let Checked::Refused(r) = first_of(room, times) {
+    if let Checked::Refused(r) = rules::first_of(room, times) {
         return Said::Not(r);
     }
     Said::Task(period, run, deadline)

@@ -2,11 +2,15 @@
 -- Assumes nothing.
 use mathlib.Core.Path.{sym, _∙_}
 use Rattle.basics.specs.Determined.{Determined}
+use Rattle.rules.proofs.first_of.Reads as first-of
 use Rattle.rules.proofs.in_range.Reads as in-range
 use Rattle.rules.proofs.pair.Reads as pair
 use Rattle.rules.proofs.times.Reads as times
 use Rattle.rules.proofs.totals_fit.Reads as totals-fit
 use Rattle.rules.proofs.used_in_range.Reads as used-in-range
+
+pub first-of-determined : Determined (first-of.Learnt tt)
+first-of-determined a x y r s p q = p ∙ sym q
 
 pub in-range-determined : Determined (in-range.Learnt tt)
 in-range-determined a x y r s p q = p ∙ sym q

@@ -1,12 +1,23 @@
-// The rules that a table and a listing are both held to: 4, 5 and 7.
+// The rules that a table and a listing are both held to: 4, 5 and 7. And which of two refusals is given.
 ghost use mathlib.Core.Path.{_≡_};
 ghost use Rattle.basics.specs.Choice.{within};
+ghost use Rattle.table.specs.Faults.{_then_};
 ghost use Rattle.table.specs.Rules.{timesInRange, timesInOrder, timesFault, isUnused, usedInRange, pairInRange, totalsFit, pairFault};
 use table::Checked;
 use table::Fault;
 use table::Pair;
 use table::Refusal;
 use table::Table;
+
+// The first of two refusals.
+pub fn first_of(a: Checked, b: Checked) -> Checked
+    ensures { λ r. ⌜ r ≡ (a then b) ⌝ }
+{
+    match a {
+        Checked::Fine => b,
+        Checked::Refused(_) => a,
+    }
+}
 
 // x is from 1 to most.
 pub fn in_range(x: u32, most: u32) -> bool

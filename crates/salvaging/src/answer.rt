@@ -5,7 +5,7 @@ ghost use lib.ListN.{length};
 ghost use lib.Dec.{leb, ltb};
 ghost use Rattle.basics.specs.Over.{rowTo};
 ghost use Rattle.table.specs.declared.Fault.the-variants.{TooShort, BadCard};
-ghost use Rattle.table.specs.Faults.{_then_, unless};
+ghost use Rattle.table.specs.Faults.{unless};
 ghost use Rattle.table.specs.Answers.{orWrote};
 ghost use Rattle.salvaging.specs.Fates.{codeAt};
 ghost use Rattle.salvaging.specs.Salvage.{leftIn, blocksOf, roomFault, salvageFault, ifFine};
@@ -53,16 +53,6 @@ pub(crate) fn check_room(k: usize, entries: usize, needed: usize, room: usize) -
     Checked::Fine
 }
 
-// The first of two refusals.
-pub(crate) fn first_of(a: Checked, b: Checked) -> Checked
-    ensures { λ r. ⌜ r ≡ (a then b) ⌝ }
-{
-    match a {
-        Checked::Fine => b,
-        Checked::Refused(r) => Checked::Refused(r),
-    }
-}
-
 // So many where nothing is refused, else none.
 pub(crate) fn if_fine(c: Checked, n: usize) -> usize
     ensures { λ r. ⌜ r ≡ ifFine c n ⌝ }
@@ -90,9 +80,9 @@ pub(crate) fn find(input: &[u8], codes: &[u8], left: usize, entries: usize, room
     let k = codes.len();
     // the output is to have room for the whole input, though the archive may be smaller
     let needed = SIZE * k;
-    let fits = first_of(check_card(k), check_room(k, entries, needed, room));
-    let whole = first_of(fits, left::check_complete(input, codes, left));
+    let fits = rules::first_of(check_card(k), check_room(k, entries, needed, room));
+    let whole = rules::first_of(fits, left::check_complete(input, codes, left));
     let n = if_fine(whole, left);
-    let fault = first_of(whole, mending::check_table(input, codes, n));
+    let fault = rules::first_of(whole, mending::check_table(input, codes, n));
     Found { fits, fault }
 }
