@@ -2,7 +2,7 @@
 -- Assumes nothing.
 use mathlib.Core.Path.{sym, _∙_}
 use Rattle.basics.specs.Determined.{Determined}
-use Rattle.rounds.proofs.verdict_of.Reads as verdict-of
+use Rattle.rounds.proofs.outcome_of.Reads as outcome-of
 
-pub verdict-of-determined : Determined (verdict-of.Learnt tt)
-verdict-of-determined a x y r s p q = p ∙ sym q
+pub outcome-of-determined : Determined (outcome-of.Learnt tt)
+outcome-of-determined a x y r s p q = p ∙ sym q

@@ -1,16 +1,18 @@
--- The demand over shares: it never falls, it is at least the base, the packed sums give it, and its rounds lead to the verdict.
+-- The demand over shares: it never falls, it is at least the base, the packed sums give it, and its rounds are those of the definition.
 -- Assumes nothing.
-use Prim.Native.Nat.{ℕ, _+_, _-_, _*_, _/_, _≤_, _<_, min}
+use Prim.Native.Nat.{ℕ, suc, _+_, _-_, _*_, _/_, _≤_, _<_, min}
 use mathlib.Core.Path.{_≡_, sym, ap, ap₂, _∙_}
 use mathlib.Core.List.{List}
 use native.Mathlib.Nat.{le-refl, le-trans, add-le-add}
 use native.Mathlib.Omega.{arith}
 use Rattle.basics.proofs.SumLaws.{sum-none, sum-more, sum-le}
 use Rattle.table.specs.Limits.{maxTime}
-use Rattle.theory.specs.declared.Verdict.the-variants.{Meets, Misses}
+use Rattle.theory.specs.declared.Verdict.the-variants.{Meets, Misses, Open}
+use Rattle.theory.specs.declared.Counted.{Counted}
 use Rattle.theory.specs.Work.{workload, ceilDiv}
-use Rattle.theory.specs.Verdict.{verdictOf}
-use Rattle.theory.proofs.VerdictLaws.{Rises, From, from-start, from-step, found, past, verdict-is}
+use Rattle.theory.specs.Rounds.{oneMore, countedFrom}
+use Rattle.theory.proofs.LeastLaws.{Rises}
+use Rattle.theory.proofs.RoundLaws.{round-repeats, round-passes, round-goes-on}
 use Rattle.theory.proofs.WorkLaws.{workload-rises, ceilDiv-rises}
 use Rattle.rounds.specs.declared.Part.{Part}
 use Rattle.rounds.specs.declared.Wholes.{Wholes}
@@ -78,35 +80,70 @@ round-is {s} {x} {y} {t} p d h w a q b =
 
 -- ---- the rounds
 
--- t lies from 1 to D, and every answer is at least t
-pub record Sought (s : Shares) (D t : ℕ) : Type 0 where
+-- a verdict after so many rounds before
+abbrev pub after : ℕ → Counted → Counted
+after used r = record { verdict = r .verdict; rounds = used + r .rounds }
+
+-- t lies from 1 to D and is at most its demand; of the rounds allowed some are left, and what they come to from t on, after those used, all come to from C on
+pub record Sought (s : Shares) (D A t used : ℕ) : Type 0 where
   pub low : 1 ≤ t
   pub high : t ≤ D
-  pub from : From (sharesDemand s) t
+  pub up : t ≤ sharesDemand s t
+  pub left : used < A
+  pub rest : after used (countedFrom (sharesDemand s) D (A - used) t) ≡ countedFrom (sharesDemand s) D A (s .start)
 
-pub sought-start : {s : Shares} {D : ℕ} → SoundShares s D → Sought s D (s .start)
-sought-start {s} g =
+pub sought-start : {s : Shares} {D A : ℕ} → SoundShares s D → 1 ≤ A → Sought s D A (s .start) 0
+sought-start {s} {D} {A} g h =
+    let x = countedFrom (sharesDemand s) D A (s .start) in
+    let z : A - 0 ≡ A = omega arith in
+    let e : 0 + x .rounds ≡ x .rounds = omega arith in
     record {
       low = g .head .start-least;
       high = g .head .start-deadline;
-      from = from-start (sharesDemand s) (s .start) (λ t. le-trans (g .head .start-base) (demand-base s t));
+      up = le-trans (g .head .start-base) (demand-base s (s .start));
+      left = h;
+      rest = ap (λ (n : ℕ). after 0 (countedFrom (sharesDemand s) D n (s .start))) z ∙ (λ j. record { verdict = x .verdict; rounds = e j });
     }
 
 -- the end of the round at t: f is the demand
-pub record Round (s : Shares) (D t f : ℕ) : Type 0 where
+pub record Round (s : Shares) (D A t used f : ℕ) : Type 0 where
   pub sound : SoundShares s D
-  pub sought : Sought s D t
+  pub sought : Sought s D A t used
   pub is : f ≡ sharesDemand s t
 
-module _ {s : Shares} {D t f : ℕ} (r : Round s D t f) where
-  next : From (sharesDemand s) f
-  next = rw (r .is) (from-step (sharesDemand s) t (demand-rises s D (r .sound)) (r .sought .from))
+module _ {s : Shares} {D A t used f : ℕ} (r : Round s D A t used f) where
+  -- this round, and as many after it as are left
+  this : {x : Counted} → countedFrom (sharesDemand s) D (suc (A - (used + 1))) t ≡ x → after used x ≡ countedFrom (sharesDemand s) D A (s .start)
+  this e =
+      let l : suc (A - (used + 1)) ≡ A - used = omega (arith, r .sought .left) in
+      ap (after used) (sym e) ∙ ap (λ (n : ℕ). after used (countedFrom (sharesDemand s) D n t)) l ∙ r .sought .rest
 
-  pub round-more : t < f → f ≤ D → Sought s D f
-  round-more l k = record { low = omega arith; high = k; from = next }
+  on : t < f → sharesDemand s t ≡ t → ⊥
+  on l e = omega (arith, r .is)
 
-  pub round-meets : f ≤ t → Meets t ≡ verdictOf (sharesDemand s) D
-  round-meets l = verdict-is _ D _ (found _ D t (r .sought .low) (r .sought .high) (omega arith) (r .sought .from))
+  next : t < f → f ≤ D → countedFrom (sharesDemand s) D (suc (A - (used + 1))) t ≡ oneMore (countedFrom (sharesDemand s) D (A - (used + 1)) f)
+  next l k = rw (r .is) (round-goes-on (sharesDemand s) D (A - (used + 1)) t (on l) (omega (arith, r .is)))
 
-  pub round-misses : D < f → Misses ≡ verdictOf (sharesDemand s) D
-  round-misses l = verdict-is _ D _ (past _ D f l next)
+  pub round-meets : f ≤ t → record { verdict = Meets t; rounds = used + 1 } ≡ countedFrom (sharesDemand s) D A (s .start)
+  round-meets l = this (round-repeats (sharesDemand s) D (A - (used + 1)) t (omega (arith, r .is, r .sought .up)))
+
+  pub round-misses : t < f → D < f → record { verdict = Misses; rounds = used + 1 } ≡ countedFrom (sharesDemand s) D A (s .start)
+  round-misses l k = this (round-passes (sharesDemand s) D (A - (used + 1)) t (on l) (omega (arith, r .is)))
+
+  pub round-open : t < f → f ≤ D → used + 1 ≡ A → record { verdict = Open; rounds = used + 1 } ≡ countedFrom (sharesDemand s) D A (s .start)
+  unfolding countedFrom
+  round-open l k e =
+      let z : A - (used + 1) ≡ 0 = omega arith in
+      this (next l k ∙ ap (λ (n : ℕ). oneMore (countedFrom (sharesDemand s) D n f)) z)
+
+  pub round-more : t < f → f ≤ D → (used + 1 ≡ A → ⊥) → Sought s D A f (used + 1)
+  round-more l k n =
+      let x = countedFrom (sharesDemand s) D (A - (used + 1)) f in
+      let e : used + 1 + x .rounds ≡ used + suc (x .rounds) = omega arith in
+      record {
+        low = omega arith;
+        high = k;
+        up = rw (r .is) (demand-rises s D (r .sound) t (sharesDemand s t) (r .sought .up));
+        left = omega (arith, r .sought .left);
+        rest = (λ j. record { verdict = x .verdict; rounds = e j }) ∙ this (next l k);
+      }

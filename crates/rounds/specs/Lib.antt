@@ -1,6 +1,6 @@
 -- The rounds over the shares of one task.
 --   Shares    what the analysis of one task reads of a table, and the demand over it
---   Outcome   when the shares are sound, and what `verdict_of` answers
+--   Outcome   when the shares are sound, and what `outcome_of` answers
 -- and, cited by the contracts of private functions alone, so that no reader has to believe it:
 --   Parts     the shares that count, packed, and the quotient by a product
 pub mod Shares

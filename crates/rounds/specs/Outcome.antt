@@ -5,7 +5,7 @@ use lib.Dec.{leb}
 use Rattle.basics.specs.Choice.{pick, within}
 use Rattle.basics.specs.Over.{allTo}
 use Rattle.table.specs.Limits.{maxCpus, maxTasks, maxResources, maxTime, maxCount}
-use Rattle.theory.specs.Verdict.{verdictOf}
+use Rattle.theory.specs.Rounds.{countedFrom}
 use Rattle.rounds.specs.declared.Share.{Share}
 use Rattle.rounds.specs.declared.Shares.{Shares}
 use Rattle.rounds.specs.declared.Outcome.{Outcome}
@@ -33,8 +33,8 @@ headFits start base cpus n D =
 unfoldable pub isSound : Shares → ℕ → Bool
 isSound s D = headFits (s .start) (s .base) (s .cpus) (s .n) D && allTo (s .n) (λ l. shareFits (shareAt s l))
 
-unfoldable pub outcomeOf : Shares → ℕ → Outcome
-outcomeOf s D = pick (isSound s D) (Of (verdictOf (sharesDemand s) D)) Unsound
+unfoldable pub outcomeOf : Shares → ℕ → ℕ → Outcome
+outcomeOf s D allowance = pick (isSound s D) (Of (countedFrom (sharesDemand s) D allowance (s .start))) Unsound
 
 -- ---- the same as facts
 

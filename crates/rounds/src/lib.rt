@@ -4,11 +4,12 @@ ghost use mathlib.Core.Path.{_≡_};
 ghost use Prim.Native.Nat.{_+_, _/_, _≤_, min};
 ghost use Rattle.basics.specs.Choice.{within};
 ghost use Rattle.table.specs.Limits.{maxTime};
-ghost use Rattle.theory.specs.Verdict.{verdictOf};
+ghost use Rattle.theory.specs.Rounds.{countedFrom};
 ghost use Rattle.rounds.specs.Shares.{sharesDemand};
 ghost use Rattle.rounds.specs.Outcome.{shareFits, headFits, isSound, outcomeOf, Sound, SoundRow, SoundShares};
 ghost use Rattle.rounds.specs.Parts.{maxSpan, maxSum, GoodPart, PartIs, UncappedIs, WholesAre, DividedAre};
 use table::Table;
+use theory::Counted;
 use theory::Verdict;
 
 // What one task's analysis reads of another: the units of it that count whole, and the two counts that are divided by m.
@@ -29,9 +30,9 @@ pub struct Shares {
     pub of: [Share; Table::MAX_TASKS],
 }
 
-// The verdict, or that the shares can be those of no accepted table.
+// The verdict and its rounds, or that the shares can be those of no accepted table.
 pub enum Outcome {
-    Of(Verdict),
+    Of(Counted),
     Unsound,
 }
 
@@ -186,10 +187,16 @@ fn divided_of(s: Shares) -> Divided
     Divided { n, of }
 }
 
-// The lengths from C on, each the demand at the one before, until one repeats or passes D.
-fn iterate(s: Shares, deadline: u32) -> Verdict
-    requires { ⌜ SoundShares s deadline ⌝ }
-    ensures { λ r. ⌜ r ≡ verdictOf (sharesDemand s) deadline ⌝ }
+fn found(verdict: Verdict, rounds: u32) -> Counted
+    ensures { λ r. ⌜ r ≡ record { verdict = verdict; rounds = rounds } ⌝ }
+{
+    Counted { verdict, rounds }
+}
+
+// The lengths from C on, each the demand at the one before, until one repeats or passes D, or the rounds that are allowed are used up.
+fn iterate(s: Shares, deadline: u32, allowance: u32) -> Counted
+    requires { ⌜ SoundShares s deadline × (1 ≤ allowance) ⌝ }
+    ensures { λ r. ⌜ r ≡ countedFrom (sharesDemand s) deadline allowance (s .start) ⌝ }
 {
     let w = wholes_of(s);
     let d = divided_of(s);
@@ -197,6 +204,7 @@ fn iterate(s: Shares, deadline: u32) -> Verdict
     let m = d.n;
     let last = wide(deadline);
     let mut t = s.start;
+    let mut used: u32 = 0;
     loop {
         let mut whole: u64 = 0;
         let mut i: usize = 0;
@@ -213,13 +221,19 @@ fn iterate(s: Shares, deadline: u32) -> Verdict
             j = j + 1;
         }
         let f = s.base + whole + (part + (s.cpus - 1)) / s.cpus;
-        if f <= wide(t) {
-            return Verdict::Meets(t);
+        let length = wide(t);
+        let spent = used + 1;
+        if f <= length {
+            return found(Verdict::Meets(t), spent);
         }
         if last < f {
-            return Verdict::Misses;
+            return found(Verdict::Misses, spent);
+        }
+        if spent == allowance {
+            return found(Verdict::Open, spent);
         }
         t = f as u32;
+        used = spent;
     }
 }
 
@@ -277,12 +291,15 @@ fn is_sound(s: Shares, deadline: u32) -> bool
     true
 }
 
-// The verdict for the shares of a task and its deadline.
-pub fn verdict_of(s: Shares, deadline: u32) -> Outcome
-    ensures { λ r. ⌜ r ≡ outcomeOf s deadline ⌝ }
+// The verdict for the shares of a task and its deadline, and its rounds, so many of them allowed. With none allowed it is open at once.
+pub fn outcome_of(s: Shares, deadline: u32, allowance: u32) -> Outcome
+    ensures { λ r. ⌜ r ≡ outcomeOf s deadline allowance ⌝ }
 {
     if !is_sound(s, deadline) {
         return Outcome::Unsound;
     }
-    Outcome::Of(iterate(s, deadline))
+    if allowance == 0 {
+        return Outcome::Of(found(Verdict::Open, 0));
+    }
+    Outcome::Of(iterate(s, deadline, allowance))
 }

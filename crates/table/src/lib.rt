@@ -47,6 +47,7 @@ pub enum Fault {
     BadBlock,
     Mismatch,
     BadCard,
+    NoRounds,
 }
 
 // A fault, and where it was found: a line, a task, or a block of an archive.
@@ -93,6 +94,7 @@ impl Fault {
             Fault::BadBlock => 13,
             Fault::Mismatch => 14,
             Fault::BadCard => 15,
+            Fault::NoRounds => 16,
         }
     }
 }

@@ -17,7 +17,7 @@ use Rattle.basics.proofs.MaxLaws.{max-wider}
 use Rattle.theory.specs.Work.{ceilDiv}
 use Rattle.theory.specs.View.{View, level, resource, isAbove, largestBelow, uses, ceiling}
 use Rattle.theory.specs.Demand.{sharedCT, otherCT, allCT, highCT, DB, Load, loadOf, S, O, F, L, demandWith}
-use Rattle.theory.proofs.VerdictLaws.{Rises}
+use Rattle.theory.proofs.LeastLaws.{Rises}
 use Rattle.theory.specs.Harder.{Harder}
 use Rattle.theory.proofs.WorkLaws.{ceilDiv-rises}
 use Rattle.theory.proofs.PassLaws.{ceiling-above}

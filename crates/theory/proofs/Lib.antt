@@ -1,14 +1,19 @@
 -- The laws of the analysis.
 --   CasesHold     the computed cases
 --   WorkLaws      uncapped-rises; workload-rises, workload-grows, workload-window, workload-less, workload-none; ceilDiv-rises
---   VerdictLaws   Rises, From, from-start, from-step, found, past; right-unique, verdict-right, verdict-is, keeps-bound;
---                 climb, meets-by, misses-by
+--   LeastLaws     Rises, From, from-start, from-step, past; least-unique, least-none, keeps-bound
+--   RoundLaws     round-repeats, round-passes, round-goes-on; no-end, counts-once, counts-more, counts-unique
+--   AllowanceLaws open-rounds, settled-rounds, going-open, open-above, open-count, rounds-most, stays
+--   EndLaws       counts-exists; Right, counted-right, meets-if, misses-if
 --   PassLaws      ceiling-above, split-all, largest-none, where-used
 --   DemandLaws    Runs, NoMore, demand-start, demand-le, harder-refl, demand-rises
 --   BoundLaws     harder-keeps, capped-keeps
 pub mod CasesHold
 pub mod WorkLaws
-pub mod VerdictLaws
+pub mod LeastLaws
+pub mod RoundLaws
+pub mod AllowanceLaws
+pub mod EndLaws
 pub mod PassLaws
 pub mod DemandLaws
 pub mod BoundLaws

@@ -1,6 +1,6 @@
--- Computed: the paper's point on the quotient, and a demand that tells the terms from the easy slips. With only case A, O or L dropped, a ceiling equal to i
+-- Computed: the paper's point on the quotient, a demand that tells the terms from the easy slips, and its rounds under an allowance. With only case A, O or L dropped, a ceiling equal to i
 -- taken into L, or a quotient rounded down would not be seen.
-use Prim.Native.Nat.{pred}
+use Prim.Native.Nat.{ℕ, pred}
 use mathlib.Core.Path.{_≡_}
 use mathlib.Core.List.{List, [], _∷_}
 use lib.ListN.{getD}
@@ -9,9 +9,12 @@ use Rattle.table.specs.declared.Resource.{Resource}
 use Rattle.table.specs.declared.Pair.{Pair}
 use Rattle.table.specs.Empty.{unusedPair}
 use Rattle.table.specs.At.{aPair}
+use Rattle.theory.specs.declared.Verdict.the-variants.{Meets, Misses, Open}
+use Rattle.theory.specs.declared.Counted.{Counted}
 use Rattle.theory.specs.Work.{workload, quotient}
 use Rattle.theory.specs.View.{View, level}
 use Rattle.theory.specs.Demand.{DB, S, O, F, L, demandOf}
+use Rattle.theory.specs.Rounds.{countedFrom}
 
 -- Two processors and four tasks, T and D 100 each. Locks: 1 of tasks 1 and 4; 2 of tasks 3 and 4, so that its ceiling is 3; 3 of tasks 2 and 3
 abbrev rows : List (List Pair)
@@ -38,10 +41,14 @@ four =
       CT = λ l k. pairs l k .total;
     }
 
+-- the rounds of task 3, so many allowed, from its C on
+abbrev third : ℕ → ℕ → Counted
+third D allowance = countedFrom (demandOf four (level 2)) D allowance (four .C (level 2))
+
 pub record CasesHold : Type 0 where
   -- "m 3, O, F and L each 1: the quotient is 1, not 3"; with m 2 it is 2, not 1
-  pub third : quotient 1 1 1 3 ≡ 1
-  pub half : quotient 1 1 1 2 ≡ 2
+  pub a-third : quotient 1 1 1 3 ≡ 1
+  pub a-half : quotient 1 1 1 2 ≡ 2
   -- of task 3 at t 17: twice the 6 of task 4's lock 2; twice task 2's lock 3; twice task 1's lock 1; of the units without a lock twice task 1's 8, and
   -- 9 and 8 of task 2's 9; twice task 4's lock 1, and not its lock 2
   pub waits : DB four (level 2) ≡ 12
@@ -55,3 +62,10 @@ pub record CasesHold : Type 0 where
   pub short : demandOf four (level 1) 17 ≡ 11
   -- at t 3, of the 8 and 9 units without a lock 3 each: no workload is above t, and their sum may be
   pub capped : F workload four (level 2) 3 ≡ 6
+  -- request 6/12: from its C, 20, the length is replaced by 56, which repeats: two rounds. Just allowed, or with more to spare, it meets; with one it is open,
+  -- and with none nothing is worked out. With a deadline of 55 the first round passes it
+  pub repeats : third 100 2 ≡ record { verdict = Meets 56; rounds = 2 }
+  pub to-spare : third 56 9 ≡ record { verdict = Meets 56; rounds = 2 }
+  pub runs-out : third 100 1 ≡ record { verdict = Open; rounds = 1 }
+  pub passes : third 55 1 ≡ record { verdict = Misses; rounds = 1 }
+  pub none-allowed : third 100 0 ≡ record { verdict = Open; rounds = 0 }

@@ -1,12 +1,12 @@
--- A table as the analysis reads it, and the verdict on a task of it.
-use Prim.Native.Nat.{pred}
+-- A table as the analysis reads it, and the verdict on a task of it with its rounds.
+use Prim.Native.Nat.{ℕ, pred}
 use Rattle.table.specs.declared.Level.{Level}
 use Rattle.table.specs.declared.Table.{Table}
 use Rattle.table.specs.At.{taskAt, pairAt}
-use Rattle.theory.specs.declared.Verdict.{Verdict}
+use Rattle.theory.specs.declared.Counted.{Counted}
 use Rattle.theory.specs.View.{View}
 use Rattle.theory.specs.Demand.{demandOf}
-use Rattle.theory.specs.Verdict.{verdictOf}
+use Rattle.theory.specs.Rounds.{countedFrom}
 
 abbrev pub viewOf : Table → View
 viewOf t =
@@ -21,5 +21,6 @@ viewOf t =
       CT = λ i k. pairAt t (pred (i .0)) (pred (k .0)) .total;
     }
 
-unfoldable pub verdictIn : Table → Level → Verdict
-verdictIn t i = verdictOf (demandOf (viewOf t) i) (viewOf t .D i)
+-- the verdict on task i and its rounds, so many of them allowed: the rounds start at C
+unfoldable pub countedIn : Table → ℕ → Level → Counted
+countedIn t allowance i = countedFrom (demandOf (viewOf t) i) (viewOf t .D i) allowance (viewOf t .C i)

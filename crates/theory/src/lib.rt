@@ -1,7 +1,14 @@
 // No functions: the analysis as mathematics stands in specs/, and its laws in proofs/.
 
-// The verdict on a task: its bound in microseconds, or that it can miss its deadline.
+// The verdict on a task: its bound in microseconds; that it can miss its deadline; or that the rounds allowed ran out before either was known.
 pub enum Verdict {
     Meets(u32),
     Misses,
+    Open,
+}
+
+// A verdict, and how many rounds it took.
+pub struct Counted {
+    pub verdict: Verdict,
+    pub rounds: u32,
 }

@@ -1,34 +1,35 @@
--- `rounds::iterate` meets its contract. The invariant: t is from 1 to D, and every answer is at least t; in a round, the sums so far. Assumes nothing.
+-- `rounds::iterate` meets its contract. The invariant: what the rounds left come to from t on, after those used, all come to from C on; in a round, the sums so far. Assumes nothing.
 use Prim.Native.Nat.{_≤_, _-_, _+_}
+use mathlib.Core.Path.{_∙_}
 use native.Mathlib.Nat.{div-le-self}
 use native.Mathlib.Omega.{arith}
 use borrow.Author.Needs.{needs}
-use Rattle.rounds.proofs.RoundLaws.{Summed, summed-none, summed-more, roundOf, round-is, Sought, sought-start, Round, round-more, round-meets, round-misses}
+use Rattle.rounds.proofs.RoundLaws.{Summed, summed-none, summed-more, roundOf, round-is, Sought, sought-start, Round, round-meets, round-misses, round-open, round-more}
 use Rattle.rounds.proofs.iterate.Statement.{statement}
 use Rattle.rounds.proofs.iterate.Tie as tie
 
 abbrev Inv-loop2 : tie.InvT-loop2
-Inv-loop2 s deadline w d n m last t whole₀ i₀ whole i = (i ≤ n) × Summed (w .of) t i whole
+Inv-loop2 s deadline allowance w d n m last t used whole₀ i₀ whole i = (i ≤ n) × Summed (w .of) t i whole
 
 abbrev μ-loop2 : tie.MeasureT-loop2
-μ-loop2 s deadline w d n m last t whole₀ i₀ whole i = n - i
+μ-loop2 s deadline allowance w d n m last t used whole₀ i₀ whole i = n - i
 
 abbrev Inv-loop3 : tie.InvT-loop3
-Inv-loop3 s deadline w d n m last t whole i part₀ j₀ part j = (j ≤ m) × Summed (d .of) t j part
+Inv-loop3 s deadline allowance w d n m last t used whole i part₀ j₀ part j = (j ≤ m) × Summed (d .of) t j part
 
 abbrev μ-loop3 : tie.MeasureT-loop3
-μ-loop3 s deadline w d n m last t whole i part₀ j₀ part j = m - j
+μ-loop3 s deadline allowance w d n m last t used whole i part₀ j₀ part j = m - j
 
 abbrev Inv-loop : tie.InvT-loop
-Inv-loop s deadline w d n m last t₀ t = Sought s deadline t
+Inv-loop s deadline allowance w d n m last t₀ used₀ t used = Sought s deadline allowance t used
 
 abbrev μ-loop : tie.MeasureT-loop
-μ-loop s deadline w d n m last t₀ t = deadline - t
+μ-loop s deadline allowance w d n m last t₀ used₀ t used = allowance - used
 
 loop-holds : tie.Need-loop-holds Inv-loop2 μ-loop2 Inv-loop3 μ-loop3 Inv-loop μ-loop
 loop-holds c =
     let b = c .before .before .before in
-    sought-start (b .pre)
+    sought-start (b .pre .0) (b .pre .1)
 
 loop2-holds : tie.Need-loop2-holds Inv-loop2 μ-loop2 Inv-loop3 μ-loop3 Inv-loop μ-loop
 loop2-holds c = (search needs, summed-none)
@@ -60,14 +61,14 @@ loop3-again c =
 round : (c : tie.After-loop3 Inv-loop2 μ-loop2 Inv-loop3 μ-loop3 Inv-loop μ-loop)
     → let w = c .before .before .before in
     let a = w .before .before .before .before .before .args in
-    Round (a .s) (a .deadline) (w .before .loop .t) (roundOf (a .s) (w .loop2 .whole) (c .before .loop3 .part))
+    Round (a .s) (a .deadline) (a .allowance) (w .before .loop .t) (w .before .loop .used) (roundOf (a .s) (w .loop2 .whole) (c .before .loop3 .part))
 round c =
     let w = c .before .before .before in
     let l = w .before in
     let k = l .before .before in
     let p = c .before .loop3 in
     record {
-      sound = k .before .before .pre;
+      sound = k .before .before .pre .0;
       sought = l .loop .inv;
       is = round-is (k .before .wholes-of .ensures) (k .divided-of .ensures) (l .loop .inv .low) (w .loop2 .inv .1) (omega arith) (p .inv .1) (omega arith);
     }
@@ -79,13 +80,16 @@ add-f-3 c =
     omega (arith, div-le-self (part + (cpus - 1)) cpus)
 
 returns : tie.Need-returns Inv-loop2 μ-loop2 Inv-loop3 μ-loop3 Inv-loop μ-loop
-returns c = round-meets (round (c .before .before .before .before .before)) (omega arith)
+returns c = c .found .ensures ∙ round-meets (round (c .before .before .before .before .before .before)) (omega arith)
 
 returns-2 : tie.Need-returns-2 Inv-loop2 μ-loop2 Inv-loop3 μ-loop3 Inv-loop μ-loop
-returns-2 c = round-misses (round (c .before .before .before .before .before .before)) (omega arith)
+returns-2 c = c .found2 .ensures ∙ round-misses (round (c .before .before .before .before .before .before .before)) (omega arith) (omega arith)
+
+returns-3 : tie.Need-returns-3 Inv-loop2 μ-loop2 Inv-loop3 μ-loop3 Inv-loop μ-loop
+returns-3 c = c .found3 .ensures ∙ round-open (round (c .before .before .before .before .before .before .before .before)) (omega arith) (omega arith) (omega arith)
 
 loop-again : tie.Need-loop-again Inv-loop2 μ-loop2 Inv-loop3 μ-loop3 Inv-loop μ-loop
-loop-again c = round-more (round (c .before .before .before .before .before .before)) (omega arith) (omega arith)
+loop-again c = round-more (round (c .before .before .before .before .before .before .before)) (omega arith) (omega arith) (omega arith)
 
 pub iterate-spec : {M : Type 1} → statement M
 iterate-spec =
@@ -123,8 +127,13 @@ iterate-spec =
     (λ c. search needs)
     add-f-3
     (λ c κs. search needs)
+    (λ c. search needs)
+    (λ c κs. search needs)
     returns
+    (λ c κs. search needs)
     returns-2
+    (λ c κs. search needs)
+    returns-3
     (λ c. search needs)
     (λ c. search needs)
     loop-again)
