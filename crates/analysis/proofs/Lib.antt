@@ -1,7 +1,7 @@
 -- Laws and theorems of the analysis' code.
---   ByIterates   a verdict by computing a few iterates
---   RowLaws      how many records are written, and the row afterwards
+--   RowLaws      what is known where nothing is refused, how many records are written, and the row afterwards
+--   ByRounds     the rounds of a task of an accepted table
 --   Determined   two answers are equal
-pub mod ByIterates
 pub mod RowLaws
+pub mod ByRounds
 pub mod Determined

@@ -1,5 +1,7 @@
--- How many records are written, and the row that the analysis leaves.
+-- What is known where nothing is refused, how many records are written, and the row that the analysis leaves.
+--     asked                     where nothing is said against the table, the task and the allowance, the table is fine and has that task, and a round is allowed
 --     fits                      where nothing is said against the table and the row, the table is fine and has no more tasks than the row has records
+--     allowed                   and a round at least is allowed
 --     count-room, -most       at most as many records are written as the row has room for, and at most 32
 --     count-asks              where a record is written, the table is fine and the record is one of its tasks'
 --     count-fine              where nothing is said against the table and the row, the records of all tasks are written
@@ -16,10 +18,12 @@ use borrow.Author.Tests.{leb-true}
 use lib.ListN.{length, getD, drop, List·getD-append}
 use lib.Seq.{drop-at}
 use Rattle.basics.specs.Over.{joinTo, rowTo}
+use Rattle.basics.proofs.ChoiceLaws.{within-true}
 use Rattle.basics.proofs.RowLaws.{row-length, row-at, over-length}
+use Rattle.table.specs.declared.Level.{Level}
 use Rattle.table.specs.declared.Table.{Table}
 use Rattle.table.specs.declared.Refusal.{Refusal}
-use Rattle.table.specs.declared.Fault.the-variants.{TooShort}
+use Rattle.table.specs.declared.Fault.the-variants.{UnknownTask, TooShort, NoRounds}
 use Rattle.table.specs.declared.Checked.{Checked}
 use Rattle.table.specs.declared.Checked.the-variants.{Fine, Refused}
 use Rattle.table.specs.Limits.{maxTasks}
@@ -28,73 +32,89 @@ use Rattle.table.proofs.FirstLaws.{then-fine}
 use Rattle.table.proofs.RuleLaws.{unless-fine}
 use Rattle.table.proofs.Acceptance.{fine-accepted}
 use Rattle.analysis.specs.declared.Record.{Record}
-use Rattle.analysis.specs.Answers.{analysisFault, orNone, recordCount, recordOf, analysed}
+use Rattle.analysis.specs.Answers.{askedFault, allowanceFault, boundFault, analysisFault, orNone, recordCount, recordOf, analysed}
+
+-- ---- one task
+
+-- nothing is said against the table, the task and the allowance
+pub asked : (t : Table) (i : Level) (allowance : ℕ) → boundFault t i allowance ≡ Fine → (tableFault t ≡ Fine) × (1 ≤ i .0) × (i .0 ≤ t .n) × (1 ≤ allowance)
+unfolding boundFault
+asked t i allowance e =
+    let p = then-fine (tableFault t) _ e in
+    let q = then-fine (askedFault (t .n) i) _ (p .1) in
+    let w = within-true 1 (t .n) (i .0) (unless-fine _ UnknownTask 0 (q .0)) in
+    (p .0, w .0, w .1, leb-true 1 allowance (unless-fine _ NoRounds 0 (q .1)))
 
 -- ---- how many records are written
 
-module _ (t : Table) (room : ℕ) where
+module _ (t : Table) (allowance room : ℕ) where
   -- nothing is said against the table and the row
-  pub fits : analysisFault t room ≡ Fine → (tableFault t ≡ Fine) × (t .n ≤ room)
+  pub fits : analysisFault t allowance room ≡ Fine → (tableFault t ≡ Fine) × (t .n ≤ room)
   unfolding analysisFault
   fits e =
       let p = then-fine (tableFault t) _ e in
-      (p .0, leb-true (t .n) room (unless-fine _ TooShort 0 (p .1)))
+      let q = then-fine (allowanceFault allowance) _ (p .1) in
+      (p .0, leb-true (t .n) room (unless-fine _ TooShort 0 (q .1)))
 
-  room-by : (a : Checked) → analysisFault t room ≡ a → orNone a (t .n) ≤ room
+  pub allowed : analysisFault t allowance room ≡ Fine → 1 ≤ allowance
+  unfolding analysisFault
+  allowed e = leb-true 1 allowance (unless-fine _ NoRounds 0 (then-fine (allowanceFault allowance) _ (then-fine (tableFault t) _ e .1) .0))
+
+  room-by : (a : Checked) → analysisFault t allowance room ≡ a → orNone a (t .n) ≤ room
   room-by Fine e = fits e .1
   room-by (Refused r) e = zero-le
 
-  most-by : (a : Checked) → analysisFault t room ≡ a → orNone a (t .n) ≤ maxTasks
+  most-by : (a : Checked) → analysisFault t allowance room ≡ a → orNone a (t .n) ≤ maxTasks
   most-by Fine e = fine-accepted t (fits e .0) .tasks-most
   most-by (Refused r) e = zero-le
 
-  asks-by : (i : ℕ) (a : Checked) → analysisFault t room ≡ a → i < orNone a (t .n) → (tableFault t ≡ Fine) × (i < t .n)
+  asks-by : (i : ℕ) (a : Checked) → analysisFault t allowance room ≡ a → i < orNone a (t .n) → (tableFault t ≡ Fine) × (i < t .n)
   asks-by i Fine e l = (fits e .0, l)
   asks-by i (Refused r) e l = absurd (not-suc-le-zero l)
 
-  pub count-room : recordCount t room ≤ room
+  pub count-room : recordCount t allowance room ≤ room
   unfolding recordCount
-  count-room = room-by (analysisFault t room) refl
+  count-room = room-by (analysisFault t allowance room) refl
 
-  pub count-most : recordCount t room ≤ maxTasks
+  pub count-most : recordCount t allowance room ≤ maxTasks
   unfolding recordCount
-  count-most = most-by (analysisFault t room) refl
+  count-most = most-by (analysisFault t allowance room) refl
 
-  pub count-asks : (i : ℕ) → i < recordCount t room → (tableFault t ≡ Fine) × (i < t .n)
+  pub count-asks : (i : ℕ) → i < recordCount t allowance room → (tableFault t ≡ Fine) × (i < t .n)
   unfolding recordCount
-  count-asks i l = asks-by i (analysisFault t room) refl l
+  count-asks i l = asks-by i (analysisFault t allowance room) refl l
 
-  pub count-fine : analysisFault t room ≡ Fine → recordCount t room ≡ t .n
+  pub count-fine : analysisFault t allowance room ≡ Fine → recordCount t allowance room ≡ t .n
   unfolding recordCount
   count-fine e = rw e
 
 -- ---- the row that the analysis leaves
 
-module _ (t : Table) (ys : List Record) where
-  pub row-fine : analysisFault t (length ys) ≡ Fine → rowTo (t .n) (recordOf t) ++ drop (t .n) ys ≡ analysed t ys
+module _ (t : Table) (allowance : ℕ) (ys : List Record) where
+  pub row-fine : analysisFault t allowance (length ys) ≡ Fine → rowTo (t .n) (recordOf t allowance) ++ drop (t .n) ys ≡ analysed t allowance ys
   unfolding analysed recordCount
   row-fine e = rw e
 
-  pub row-refused : {r : Refusal} → analysisFault t (length ys) ≡ Refused r → ys ≡ analysed t ys
+  pub row-refused : {r : Refusal} → analysisFault t allowance (length ys) ≡ Refused r → ys ≡ analysed t allowance ys
   unfolding analysed recordCount joinTo
   row-refused e = rw e
 
-module _ (t : Table) (ys : List Record) where
-  pub row-record : (i : ℕ) (d : Record) → i < recordCount t (length ys) → getD (analysed t ys) i d ≡ recordOf t i
+module _ (t : Table) (allowance : ℕ) (ys : List Record) where
+  pub row-record : (i : ℕ) (d : Record) → i < recordCount t allowance (length ys) → getD (analysed t allowance ys) i d ≡ recordOf t allowance i
   unfolding analysed
   row-record i d h =
-      let w = recordCount t (length ys) in
-      List·getD-append (rowTo w (recordOf t)) (drop w ys) d i (omega (arith, row-length w (recordOf t))) ∙ row-at w i (recordOf t) d h
+      let w = recordCount t allowance (length ys) in
+      List·getD-append (rowTo w (recordOf t allowance)) (drop w ys) d i (omega (arith, row-length w (recordOf t allowance))) ∙ row-at w i (recordOf t allowance) d h
 
   -- as the row is stored
-  pub row-last : rowTo (recordCount t (length ys)) (recordOf t) ++ drop (recordCount t (length ys)) ys ≡ analysed t ys
+  pub row-last : rowTo (recordCount t allowance (length ys)) (recordOf t allowance) ++ drop (recordCount t allowance (length ys)) ys ≡ analysed t allowance ys
   unfolding analysed
   row-last = refl
 
-  pub row-past : drop (recordCount t (length ys)) (analysed t ys) ≡ drop (recordCount t (length ys)) ys
+  pub row-past : drop (recordCount t allowance (length ys)) (analysed t allowance ys) ≡ drop (recordCount t allowance (length ys)) ys
   unfolding analysed
-  row-past = drop-at (rowTo (recordCount t (length ys)) (recordOf t)) _ _ (row-length _ (recordOf t))
+  row-past = drop-at (rowTo (recordCount t allowance (length ys)) (recordOf t allowance)) _ _ (row-length _ (recordOf t allowance))
 
-  pub row-long : length (analysed t ys) ≡ length ys
+  pub row-long : length (analysed t allowance ys) ≡ length ys
   unfolding analysed
-  row-long = over-length (recordOf t) _ ys (count-room t (length ys))
+  row-long = over-length (recordOf t allowance) _ ys (count-room t allowance (length ys))

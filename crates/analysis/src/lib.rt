@@ -1,124 +1,169 @@
-// The analysis of a table: the bound of one task, and the row of verdicts.
+// The analysis of a table: the bound of one task, and the row of verdicts, each with its rounds.
 ghost use mathlib.Core.Path.{_≡_};
 ghost use Prim.Native.Nat.{_<_};
 ghost use Rattle.table.specs.declared.Checked.the-variants.{Fine};
+ghost use Rattle.table.specs.Faults.{at};
 ghost use Rattle.table.specs.Limits.{maxTasks};
 ghost use Rattle.table.specs.Rules.{tableFault};
-ghost use Rattle.analysis.specs.Answers.{boundOf, analysisFault, recordCount, recordOf, analysed, FillsRow};
+ghost use Rattle.analysis.specs.Answers.{askedFault, allowanceFault, rowFault, boundFault, boundOf, analysisFault, recordCount, recordOf, analysed, FillsRow};
 use rounds::Outcome;
 use table::Checked;
 use table::Fault;
 use table::Level;
 use table::Refusal;
 use table::Table;
+use theory::Counted;
 use theory::Verdict;
 
-// The verdict on a task that was asked about, or why there is none.
+// The verdict on a task that was asked about and its rounds, or why there is none.
 pub enum Answer {
-    Known(Verdict),
+    Known(Counted),
     Unknown(Refusal),
 }
 
-// A task's number and its verdict.
+// A task's number, its verdict, and how many rounds that took.
 pub struct Record {
     pub task: Level,
     pub verdict: Verdict,
+    pub rounds: u32,
 }
 
-// What `analyse_all` answers: the table's refusal, if there is one, and the row.
+// What `analyse_all` answers: the refusal, if there is one, and the row.
 pub struct Analysis {
     pub answer: Checked,
     pub rows: [Record; Table::MAX_TASKS],
 }
 
-// The record of the task at slot i of a table that nothing is said against.
-fn record_at(t: Table, i: usize) -> Record
+// The record of the task at slot i of a table that nothing is said against, so many rounds being allowed.
+fn record_at(t: Table, allowance: u32, i: usize) -> Record
     requires { ⌜ (tableFault t ≡ Fine) × (i < t .n) ⌝ }
-    ensures { λ r. ⌜ r ≡ recordOf t i ⌝ }
+    ensures { λ r. ⌜ r ≡ recordOf t allowance i ⌝ }
 {
     let a = t.tasks[i];
-    let task = Level((i + 1) as u32);
+    let number = (i + 1) as u32;
+    let task = Level(number);
     let s = shares::shares_of(t, i);
-    let Outcome::Of(verdict) = rounds::verdict_of(s, a.deadline) else {
+    let Outcome::Of(x) = rounds::outcome_of(s, a.deadline, allowance) else {
         // the shares of an accepted table are sound: this is never reached
         return Record {
             task,
             verdict: Verdict::Misses,
+            rounds: 0,
         };
     };
-    Record { task, verdict }
+    let verdict = x.verdict;
+    Record {
+        task,
+        verdict,
+        rounds: x.rounds,
+    }
 }
 
-// The verdict on one task.
-pub fn bound(t: Table, task: Level) -> Answer
-    ensures { λ r. ⌜ r ≡ boundOf t task ⌝ }
+fn refuse(fault: Fault) -> Checked
+    ensures { λ r. ⌜ r ≡ at fault 0 ⌝ }
 {
-    if let Checked::Refused(r) = checking::check(t) {
-        return Answer::Unknown(r);
-    }
+    Checked::Refused(Refusal { fault, place: 0 })
+}
+
+// 10, of a table of n tasks.
+fn check_asked(n: usize, task: Level) -> Checked
+    ensures { λ r. ⌜ r ≡ askedFault n task ⌝ }
+{
     let number = task.0 as usize;
     if number < 1 {
-        return Answer::Unknown(Refusal {
-            fault: Fault::UnknownTask,
-            place: 0,
-        });
+        return refuse(Fault::UnknownTask);
     }
-    if t.n < number {
-        return Answer::Unknown(Refusal {
-            fault: Fault::UnknownTask,
-            place: 0,
-        });
-    }
-    let r = record_at(t, number - 1);
-    let verdict = r.verdict;
-    Answer::Known(verdict)
-}
-
-// What is said against a table and a row of so many records.
-fn judge(t: Table, room: usize) -> Checked
-    ensures { λ r. ⌜ r ≡ analysisFault t room ⌝ }
-{
-    if let Checked::Refused(r) = checking::check(t) {
-        return Checked::Refused(r);
-    }
-    if room < t.n {
-        return Checked::Refused(Refusal {
-            fault: Fault::TooShort,
-            place: 0,
-        });
+    if n < number {
+        return refuse(Fault::UnknownTask);
     }
     Checked::Fine
 }
 
-// How many records are to be written: none where anything is said against it.
-fn todo(t: Table, room: usize) -> usize
-    ensures { λ r. ⌜ r ≡ recordCount t room ⌝ }
+// 16.
+fn check_allowance(allowance: u32) -> Checked
+    ensures { λ r. ⌜ r ≡ allowanceFault allowance ⌝ }
 {
-    let Checked::Fine = judge(t, room) else {
+    if allowance < 1 {
+        return refuse(Fault::NoRounds);
+    }
+    Checked::Fine
+}
+
+// 11, of a row of so many records for n tasks.
+fn check_row(n: usize, room: usize) -> Checked
+    ensures { λ r. ⌜ r ≡ rowFault n room ⌝ }
+{
+    if room < n {
+        return refuse(Fault::TooShort);
+    }
+    Checked::Fine
+}
+
+// What is said against a table, a task of it and an allowance.
+fn judge_task(t: Table, task: Level, allowance: u32) -> Checked
+    ensures { λ r. ⌜ r ≡ boundFault t task allowance ⌝ }
+{
+    let own = checking::check(t);
+    let asked = check_asked(t.n, task);
+    let allowed = check_allowance(allowance);
+    rules::first_of(own, rules::first_of(asked, allowed))
+}
+
+// The verdict on one task, and its rounds, so many of them allowed.
+pub fn bound(t: Table, task: Level, allowance: u32) -> Answer
+    ensures { λ r. ⌜ r ≡ boundOf t task allowance ⌝ }
+{
+    if let Checked::Refused(r) = judge_task(t, task, allowance) {
+        return Answer::Unknown(r);
+    }
+    let number = task.0 as usize;
+    let x = record_at(t, allowance, number - 1);
+    let verdict = x.verdict;
+    Answer::Known(Counted {
+        verdict,
+        rounds: x.rounds,
+    })
+}
+
+// What is said against a table, an allowance and a row of so many records.
+fn judge(t: Table, allowance: u32, room: usize) -> Checked
+    ensures { λ r. ⌜ r ≡ analysisFault t allowance room ⌝ }
+{
+    let own = checking::check(t);
+    let allowed = check_allowance(allowance);
+    let fits = check_row(t.n, room);
+    rules::first_of(own, rules::first_of(allowed, fits))
+}
+
+// How many records are to be written: none where anything is said against it.
+fn todo(t: Table, allowance: u32, room: usize) -> usize
+    ensures { λ r. ⌜ r ≡ recordCount t allowance room ⌝ }
+{
+    let Checked::Fine = judge(t, allowance, room) else {
         return 0;
     };
     t.n
 }
 
-// The verdicts on all tasks, into the caller's row: decided above, stored here one by one.
-pub fn analyse(t: Table, row: &mut [Record]) -> Checked
-    ensures { λ r. ⌜ FillsRow t (now (row .entry)) r (now (row .exit)) ⌝ }
+// The verdicts on all tasks and their rounds, so many of them allowed for each, into the caller's row: decided above, stored here one by one.
+pub fn analyse(t: Table, allowance: u32, row: &mut [Record]) -> Checked
+    ensures { λ r. ⌜ FillsRow t allowance (now (row .entry)) r (now (row .exit)) ⌝ }
 {
     let room = row.len();
-    let n = todo(t, room);
+    let n = todo(t, allowance, room);
     let mut i: usize = 0;
     while i < n {
-        row[i] = record_at(t, i);
+        row[i] = record_at(t, allowance, i);
         i += 1;
     }
-    judge(t, room)
+    judge(t, allowance, room)
 }
 
 // The same for a caller that cannot lend a row: all by value.
-pub fn analyse_all(t: Table, rows: [Record; Table::MAX_TASKS]) -> Analysis
-    ensures { λ r. ⌜ (r .answer ≡ analysisFault t maxTasks) × (r .rows ≡ analysed t rows) ⌝ }
+pub fn analyse_all(t: Table, allowance: u32, rows: [Record; Table::MAX_TASKS]) -> Analysis
+    ensures { λ r. ⌜ (r .answer ≡ analysisFault t allowance maxTasks) × (r .rows ≡ analysed t allowance rows) ⌝ }
 {
-    let answer = judge(t, Table::MAX_TASKS);
+    let answer = judge(t, allowance, Table::MAX_TASKS);
     let Checked::Fine = answer else {
         return Analysis { answer, rows };
     };
@@ -126,7 +171,7 @@ pub fn analyse_all(t: Table, rows: [Record; Table::MAX_TASKS]) -> Analysis
     let n = t.n;
     let mut k: usize = 0;
     while k < n {
-        filled[k] = record_at(t, k);
+        filled[k] = record_at(t, allowance, k);
         k += 1;
     }
     Analysis {

@@ -15,12 +15,15 @@ use table::Refusal;
 use table::Table;
 use table::Task;
 use table::Written;
+use theory::Counted;
 use theory::Verdict;
 
-// The words of a task, and of a request that holds a table: an entry point, its argument, m, n in two words, and 32 tasks.
+// The words of a task, and of a request that holds a table: an entry point, its argument, m, n in two words, 32 tasks, and an allowance of rounds.
 const TASK: usize = 3 + 3 * Table::MAX_RESOURCES;
 
-const WORDS: usize = 5 + Table::MAX_TASKS * TASK;
+const ALLOWANCE: usize = 5 + Table::MAX_TASKS * TASK;
+
+const WORDS: usize = ALLOWANCE + 1;
 
 // Where a listing or an archive begins in a request: after the entry point and its length.
 const INPUT: usize = 8;
@@ -123,15 +126,23 @@ fn say_checked(c: Checked) {
     }
 }
 
-fn say_verdict(v: Verdict) {
+fn say_rounds(rounds: u32) {
+    say(b" rounds ");
+    say_number(rounds);
+    say(b"\n");
+}
+
+fn say_counted(x: Counted) {
+    let v = x.verdict;
     match v {
         Verdict::Meets(t) => {
             say(b"meets ");
             say_number(t);
-            say(b"\n");
         }
-        Verdict::Misses => say(b"misses\n"),
+        Verdict::Misses => say(b"misses"),
+        Verdict::Open => say(b"open"),
     }
+    say_rounds(x.rounds);
 }
 
 // What a record of the row holds before it is lent.
@@ -141,6 +152,7 @@ fn mark(i: usize) -> Record
     Record {
         task: Level(1_000 + i as u32),
         verdict: Verdict::Meets(i as u32),
+        rounds: 2_000 + i as u32,
     }
 }
 
@@ -155,11 +167,11 @@ fn marks() -> [Record; ROWS] {
 }
 
 // The front of a row, lent to the analysis.
-fn lend(t: Table, rows: [Record; ROWS], room: usize) -> Lent
+fn lend(t: Table, allowance: u32, rows: [Record; ROWS], room: usize) -> Lent
     requires { ⌜ room ≤ 40 ⌝ }
 {
     let mut row = rows;
-    let answer = analysis::analyse(t, &mut row[..room]);
+    let answer = analysis::analyse(t, allowance, &mut row[..room]);
     Lent { answer, rows: row }
 }
 
@@ -167,31 +179,34 @@ fn say_rows(l: Lent) {
     let mut i: usize = 0;
     while i < ROWS {
         let x = l.rows[i];
-        let v = x.verdict;
+        let verdict = x.verdict;
         say_number(x.task.0);
         say(b" ");
-        say_verdict(v);
+        say_counted(Counted {
+            verdict,
+            rounds: x.rounds,
+        });
         i += 1;
     }
 }
 
 // Entry point 3: `analyse`, with a row of so many records.
-fn analyse(t: Table, room: u32) {
+fn analyse(t: Table, allowance: u32, room: u32) {
     if ROWS < room as usize {
         say(b"bad row\n");
         return;
     }
-    let l = lend(t, marks(), room as usize);
+    let l = lend(t, allowance, marks(), room as usize);
     let answer = l.answer;
     say_checked(answer);
     say_rows(l);
 }
 
 // Entry point 2: `bound`, of a task.
-fn bound(t: Table, task: u32) {
-    let answer = analysis::bound(t, Level(task));
+fn bound(t: Table, task: u32, allowance: u32) {
+    let answer = analysis::bound(t, Level(task), allowance);
     match answer {
-        Answer::Known(v) => say_verdict(v),
+        Answer::Known(x) => say_counted(x),
         Answer::Unknown(r) => say_refusal(r),
     }
 }
@@ -338,8 +353,8 @@ fn main() {
     let argument = word(&space, 1);
     match word(&space, 0) {
         1 => say_checked(checking::check(t)),
-        2 => bound(t, argument),
-        3 => analyse(t, argument),
+        2 => bound(t, argument, word(&space, ALLOWANCE)),
+        3 => analyse(t, word(&space, ALLOWANCE), argument),
         4 => write(t, argument),
         5 => read(&space, argument),
         6 => archive(t, argument),

@@ -1,18 +1,18 @@
--- `analysis::record_at` meets its contract: the shares are sound, and the demand over them is the table's, so the verdict is too. Assumes nothing.
+-- `analysis::record_at` meets its contract: the shares are sound, and the demand over them is the table's, so the verdict and its rounds are too. Assumes nothing.
 use Prim.Native.Nat.{ℕ}
-use mathlib.Core.Path.{_≡_, ap, _∙_}
+use mathlib.Core.Path.{_≡_, ap, ap₂, _∙_}
 use native.Mathlib.Numerals.{add-one}
 use native.Mathlib.Omega.{arith}
 use borrow.Author.Needs.{needs}
 use Rattle.table.specs.Accepted.{Accepted}
 use Rattle.table.proofs.Acceptance.{fine-accepted}
 use Rattle.theory.specs.View.{level}
-use Rattle.theory.specs.Verdict.{verdictOf}
+use Rattle.theory.specs.Rounds.{countedFrom}
 use Rattle.rounds.specs.declared.Shares.{Shares}
 use Rattle.rounds.specs.declared.Outcome.the-variants.{Of}
 use Rattle.rounds.specs.Outcome.{outcomeOf}
 use Rattle.rounds.proofs.SoundLaws.{sound-test}
-use Rattle.theory.specs.Tables.{viewOf, verdictIn}
+use Rattle.theory.specs.Tables.{viewOf, countedIn}
 use Rattle.analysis.specs.Answers.{recordOf}
 use Rattle.shares.proofs.SoundLaws.{reduced}
 use Rattle.shares.proofs.Reduce.{shares-demand}
@@ -28,17 +28,21 @@ mul-a c = omega (arith, accepted c .tasks-most)
 element-copy-out-a : tie.Need-element-copy-out-a
 element-copy-out-a c = omega (arith, accepted c .tasks-most)
 
--- the outcome over the shares is the table's verdict
-outcome : (c : tie.After-verdict-of) → let b = c .before .before .before in c .verdict-of .result ≡ Of (verdictIn (b .args .t1) (level (b .args .i)))
-unfolding verdictIn outcomeOf
+-- the outcome over the shares is the table's
+outcome : (c : tie.After-outcome-of)
+    → let a = c .before .before .before .args in
+    c .outcome-of .result ≡ Of (countedIn (a .t1) (a .allowance) (level (a .i)))
+unfolding countedIn outcomeOf
 outcome c =
     let b = c .before .before .before in
     let t = b .args .t1 in
+    let A = b .args .allowance in
     let i = b .args .i in
+    let D = viewOf t .D (level i) in
     let r = reduced t i (b .pre .0) (b .pre .1) in
-    c .verdict-of .ensures
-    ∙ ap (λ (s : Shares). outcomeOf s (viewOf t .D (level i))) (c .before .shares-of .ensures)
-    ∙ rw (sound-test _ _ (r .sound)) (ap (λ (f : ℕ → ℕ). Of (verdictOf f (viewOf t .D (level i)))) (λ j u. shares-demand (viewOf t) i _ (r .are) u j))
+    c .outcome-of .ensures
+    ∙ ap (λ (s : Shares). outcomeOf s D A) (c .before .shares-of .ensures)
+    ∙ rw (sound-test _ _ (r .sound)) (ap₂ (λ (f : ℕ → ℕ) (C : ℕ). Of (countedFrom f D A C)) (λ j u. shares-demand (viewOf t) i _ (r .are) u j) (r .are .start))
 
 -- they are sound, so another outcome does not come up
 returns : tie.Need-returns
@@ -48,7 +52,7 @@ returns-2 : tie.Need-returns-2
 unfolding recordOf
 returns-2 c =
     let b = c .before .before .before .before .before .before in
-    let e : c .before .verdict .given .0 .0 ≡ verdictIn (b .args .t1) (level (b .args .i)) = cc (outcome (c .before .before .before)) in
+    let e : c .before .x .given .0 .0 ≡ countedIn (b .args .t1) (b .args .allowance) (level (b .args .i)) = cc (outcome (c .before .before .before)) in
     rw (add-one, e)
 
 pub record-at-spec : {M : Type 1} → statement M
