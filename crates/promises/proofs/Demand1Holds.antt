@@ -2,14 +2,17 @@
 -- Assumes nothing.
 use Prim.Native.Nat.{_*_}
 use mathlib.Core.Path.{refl, sym}
+use native.Mathlib.Omega.{arith}
 use base.Logic.{id⊢}
 use lib.ListN.{length}
+use lib.Dec.{leb}
+use Rattle.basics.specs.Choice.{within}
 use Rattle.basics.specs.Over.{joinTo}
-use Rattle.table.specs.declared.Fault.the-variants.{UnknownTask, TooShort}
+use Rattle.table.specs.declared.Fault.the-variants.{UnknownTask, TooShort, NoRounds}
 use Rattle.table.proofs.Determined.{number-determined, empty-determined}
-use Rattle.table.proofs.FirstDecides.{one-number, rule-decides, two-decide, many-decide, rule-by, above-fails, within-fails}
+use Rattle.table.proofs.FirstDecides.{one-number, rule-decides, two-decide, many-decide, rule-by, first-rule, second-rule, above-fails, none-fails, some-holds, within-holds, within-fails}
 use Rattle.table.proofs.Acceptance.{fine-accepted, accepted-fine}
-use Rattle.rules.proofs.Determined.{in-range-determined, times-determined, used-in-range-determined, totals-fit-determined, pair-determined}
+use Rattle.rules.proofs.Determined.{first-of-determined, in-range-determined, times-determined, used-in-range-determined, totals-fit-determined, pair-determined}
 use Rattle.checking.proofs.Determined.{check-determined}
 use Rattle.field.proofs.Determined.{time-determined, count-determined, ends-at-determined}
 use Rattle.put.proofs.Determined.{put-time-determined, put-count-determined, put-text-determined, put-length-determined, count-len-determined, time-len-determined}
@@ -20,7 +23,7 @@ use Rattle.listing.proofs.Determined.{read-determined}
 use Rattle.writing.proofs.Determined.{write-determined}
 use Rattle.meaning.proofs.Refused.{listing-empty}
 use Rattle.meaning.proofs.ListingRefusals.{refused-as-called}
-use Rattle.rounds.proofs.Determined.{verdict-of-determined}
+use Rattle.rounds.proofs.Determined.{outcome-of-determined}
 use Rattle.shares.proofs.Determined.{shares-of-determined}
 use Rattle.refusal.proofs.Determined.{put-refusal-determined}
 use Rattle.checksum.proofs.Determined.{check-of-determined}
@@ -35,6 +38,7 @@ use Rattle.recovery.proofs.Called.{salvaged-as-called}
 use Rattle.recovery.proofs.Listed.{list-kept, list-written}
 use Rattle.analysis.specs.Answers.{boundFault, analysisFault, recordCount, analysed}
 use Rattle.analysis.proofs.Determined.{bound-determined, analyse-all-determined, analyse-determined}
+use Rattle.page.proofs.Determined.{page-of-determined, put-header-determined, put-row-determined}
 use Rattle.promises.specs.Demand1.{Entries, Determines, Keeps, KeepsOrLists, FirstDecides, Demand1}
 
 entries : Entries
@@ -64,6 +68,7 @@ determines =
       number = number-determined;
       empty = empty-determined;
       check = check-determined;
+      first-of = first-of-determined;
       in-range = in-range-determined;
       times = times-determined;
       used-in-range = used-in-range-determined;
@@ -93,10 +98,13 @@ determines =
       blocks-of = blocks-of-determined;
       salvage = salvage-determined;
       bound = bound-determined;
-      verdict-of = verdict-of-determined;
+      outcome-of = outcome-of-determined;
       shares-of = shares-of-determined;
       analyse-all = analyse-all-determined;
       analyse = analyse-determined;
+      page-of = page-of-determined;
+      put-header = put-header-determined;
+      put-row = put-row-determined;
     }
 
 -- ---- a refusal changes nothing
@@ -105,7 +113,7 @@ keeps : Keeps
 unfolding analysed recordCount joinTo written archiving
 keeps =
     record {
-      row = λ t row r e. rw e;
+      row = λ t allowance row r e. rw e;
       output = λ t out r e. rw e;
       field = λ text out e. short-is text out (sym e) refl .1;
       table = listing-empty;
@@ -131,8 +139,10 @@ first-decides =
       two = two-decide;
       many = many-decide;
       fine = λ t. (fine-accepted t, accepted-fine t);
-      ten = λ t i e. rw e (rule-by _ UnknownTask (within-fails (t .n) (i .0)));
-      eleven-row = λ t room e. rw e (rule-by _ TooShort (above-fails (t .n) room));
+      ten = λ t i allowance e. rw e (first-rule (within 1 (t .n) (i .0)) UnknownTask (leb 1 allowance) NoRounds (λ z. omega (arith, z)) (within-fails (t .n) (i .0)));
+      sixteen-task = λ t i allowance e. rw e (second-rule (within 1 (t .n) (i .0)) UnknownTask (leb 1 allowance) NoRounds (λ z. omega (arith, z)) (within-holds (t .n) (i .0)) (none-fails allowance));
+      sixteen-row = λ t allowance room e. rw e (first-rule (leb 1 allowance) NoRounds (leb (t .n) room) TooShort (λ z. omega (arith, z)) (none-fails allowance));
+      eleven-row = λ t allowance room e. rw e (second-rule (leb 1 allowance) NoRounds (leb (t .n) room) TooShort (λ z. omega (arith, z)) (some-holds allowance) (above-fails (t .n) room));
       eleven-output = λ t room e. rw e (rule-by _ TooShort (above-fails (length (textOf t)) room));
       eleven-archiving = λ t room e. rw e (rule-by _ TooShort (above-fails (blockSize * t .n) room));
     }

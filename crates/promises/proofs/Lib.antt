@@ -1,5 +1,5 @@
---   Demand1Holds, Demand2Holds, Demand3Holds, DecimalsHold, ArchivesHold, PointsHold, WindowHolds, SalvagesHold   each promise, by citing the crate that did the work
---   HarderByTest, ThreeTasks                                                                                      a view made harder, by one test that computes; the report on three tasks
+--   Demand1Holds, Demand2Holds, Demand3Holds, DecimalsHold, ArchivesHold, PointsHold, WindowHolds, SalvagesHold, RoundsHold   each promise, by citing the crate that did the work
+--   HarderByTest, ThreeTasks                                                                                                  a view made harder, by one test that computes; the report on three tasks
 pub mod Demand1Holds
 pub mod Demand2Holds
 pub mod HarderByTest
@@ -10,3 +10,4 @@ pub mod ThreeTasks
 pub mod PointsHold
 pub mod WindowHolds
 pub mod SalvagesHold
+pub mod RoundsHold

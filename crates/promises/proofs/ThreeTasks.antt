@@ -1,27 +1,56 @@
--- The report on a listing of three tasks, from the verdicts on them.
+-- What a program prints on a listing of three tasks, from what they come to.
 -- Assumes nothing.
+use Prim.Native.Nat.{ℕ, _≤_}
 use Prim.Native.String.{String}
 use mathlib.Core.Path.{_≡_, _∙_}
-use mathlib.Core.List.{_++_}
+use mathlib.Core.List.{List, _++_}
+use native.Mathlib.Omega.{arith}
+use lib.Dec.{T, leb, leb→le}
 use Rattle.basics.specs.Over.{joinTo}
 use Rattle.basics.specs.Text.{bytes}
 use Rattle.table.specs.declared.Table.{Table}
 use Rattle.table.specs.declared.Checked.the-variants.{Fine}
 use Rattle.listing.specs.Read.{readListing}
-use Rattle.theory.specs.declared.Verdict.{Verdict}
+use Rattle.theory.specs.declared.Verdict.the-variants.{Meets, Misses}
+use Rattle.theory.specs.declared.Counted.{Counted}
 use Rattle.theory.specs.View.{level}
-use Rattle.theory.specs.Tables.{verdictIn}
-use Rattle.page.specs.Report.{rowText, pageText, reportText}
+use Rattle.theory.specs.Tables.{countedIn}
+use Rattle.analysis.proofs.ByRounds.{under-more}
+use Rattle.page.specs.Report.{reportAllowance, header, rowText, pageText, reportText}
 use Rattle.page.proofs.Reports.{report-accepted}
 
 -- the table that a listing is read as
 abbrev pub tableIn : String → Table
 tableIn s = readListing (bytes s) .table
 
-pub three : (s : String) (a b c : Verdict) → readListing (bytes s) .answer ≡ Fine → tableIn s .n ≡ 3
-    → verdictIn (tableIn s) (level 0) ≡ a → verdictIn (tableIn s) (level 1) ≡ b → verdictIn (tableIn s) (level 2) ≡ c
-    → reportText (bytes s) ≡ bytes "task verdict bound_us\n" ++ ((rowText 1 a ++ rowText 2 b) ++ rowText 3 c)
+abbrev row : ℕ → Counted → List ℕ
+row number r = rowText number (r .verdict) (r .rounds)
+
+pub three : (allowance : ℕ) (s : String) (a b c : Counted) → 1 ≤ allowance → readListing (bytes s) .answer ≡ Fine → tableIn s .n ≡ 3
+    → countedIn (tableIn s) allowance (level 0) ≡ a → countedIn (tableIn s) allowance (level 1) ≡ b → countedIn (tableIn s) allowance (level 2) ≡ c
+    → reportText allowance (bytes s) ≡ header ++ ((row 1 a ++ row 2 b) ++ row 3 c)
 unfolding pageText joinTo
-three s a b c e n p q r =
-    report-accepted (bytes s) (tableIn s) (λ j. record { answer = e j; table = tableIn s })
+three allowance s a b c h e n p q r =
+    report-accepted allowance (bytes s) (tableIn s) h (λ j. record { answer = e j; table = tableIn s })
     ∙ rw (n, p, q, r)
+
+-- a bound, or a miss, after k rounds
+abbrev pub met : ℕ → ℕ → Counted
+met u k = record { verdict = Meets u; rounds = k }
+
+abbrev pub missed : ℕ → Counted
+missed k = record { verdict = Misses; rounds = k }
+
+-- what comes after k rounds comes under the allowance of `report`, if that is no less
+module _ (s : String) (i k : ℕ) (h : T (leb k 10_000_000)) where
+  pub meets-in : {u : ℕ} → countedIn (tableIn s) k (level i) ≡ met u k → countedIn (tableIn s) reportAllowance (level i) ≡ met u k
+  unfolding reportAllowance
+  meets-in e = under-more (tableIn s) i k reportAllowance (leb→le k _ h) e (λ o. let z : _≡_ {A = ℕ} 0 1 = cc in absurd (omega arith))
+
+  pub misses-in : countedIn (tableIn s) k (level i) ≡ missed k → countedIn (tableIn s) reportAllowance (level i) ≡ missed k
+  unfolding reportAllowance
+  misses-in e = under-more (tableIn s) i k reportAllowance (leb→le k _ h) e (λ o. let z : _≡_ {A = ℕ} 0 1 = cc in absurd (omega arith))
+
+pub some-allowed : 1 ≤ reportAllowance
+unfolding reportAllowance
+some-allowed = leb→le 1 10_000_000 tt

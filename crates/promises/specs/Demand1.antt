@@ -1,6 +1,6 @@
 -- Demand 1: every input gets an answer that the contract determines; a refusal is given exactly when its rule is the first that fails,
 -- and then everything lent holds what it held, with one amendment: of a card with bad blocks the list is written unless 15 or 11 is given. (That each function answers at all, and does nothing undefined, is what the checker proves of every function.)
-use Prim.Native.Nat.{ℕ, _*_, _<_}
+use Prim.Native.Nat.{ℕ, _*_, _≤_, _<_}
 use mathlib.Core.Path.{_≡_}
 use mathlib.Core.Bool.{Bool, false}
 use mathlib.Core.List.{List, _++_}
@@ -46,6 +46,7 @@ use Rattle.analysis.specs.Answers.{boundFault, boundOf, analysisFault, analysed
 use Rattle.table.proofs.Fault.number.Reads as number
 use Rattle.table.proofs.Table.empty.Reads as empty
 use Rattle.checking.proofs.check.Reads as check
+use Rattle.rules.proofs.first_of.Reads as first-of
 use Rattle.rules.proofs.in_range.Reads as in-range
 use Rattle.rules.proofs.pair.Reads as pair
 use Rattle.rules.proofs.times.Reads as times
@@ -74,11 +75,14 @@ use Rattle.card.proofs.read.Reads as card-read
 use Rattle.salvaging.proofs.Fate.code.Reads as code
 use Rattle.salvaging.proofs.blocks_of.Reads as blocks-of
 use Rattle.salvaging.proofs.salvage.Reads as salvage
-use Rattle.rounds.proofs.verdict_of.Reads as verdict-of
+use Rattle.rounds.proofs.outcome_of.Reads as outcome-of
 use Rattle.shares.proofs.shares_of.Reads as shares-of
 use Rattle.analysis.proofs.analyse as analyse
 use Rattle.analysis.proofs.analyse_all.Reads as analyse-all
 use Rattle.analysis.proofs.bound.Reads as bound
+use Rattle.page.proofs.page_of.Reads as page-of
+use Rattle.page.proofs.put_header.Reads as put-header
+use Rattle.page.proofs.put_row.Reads as put-row
 use Rattle.promises.specs.Words.{Answers, Leaves}
 
 -- ---- the library's entry points answer what these definitions say: what follows, here and in the other files, is said of them
@@ -97,13 +101,13 @@ pub record Entries : Type 2 where
   pub salvage-answers : (κs : Lfts 3) → Answers (salvage.Learnt κs) (λ a. salvageAnswer (a .0 .now) (length (a .1 .0 .now)) (length (a .1 .1 .0 .now)))
   pub salvage-lists : (κs : Lfts 3) → Leaves (λ x. x .1 .0 .now) (salvage.Learnt κs) (λ a. listed (a .0 .now) (a .1 .0 .now) (length (a .1 .1 .0 .now)))
   pub salvage-leaves : (κs : Lfts 3) → Leaves (λ x. x .1 .1 .0 .now) (salvage.Learnt κs) (λ a. salvaged (a .0 .now) (length (a .1 .0 .now)) (a .1 .1 .0 .now))
-  pub bound : Answers (bound.Learnt tt) (λ a. boundOf (a .0) (a .1 .0))
+  pub bound : Answers (bound.Learnt tt) (λ a. boundOf (a .0) (a .1 .0) (a .1 .1 .0))
   -- `analyse` is walked by hand, and the checker makes no `Learnt` of it: this is its `ensures` itself, as the checker has it, at any arguments a, answer r
   -- and arguments at exit x; it says that the row is filled
   pub analyse : {M : Type 1} (𝓤 : URA M) (H : Heap 𝓤) (A : Atoms 𝓤) (mem : Memory → SProp 𝓤) (run : Routine → Fun 𝓤) (κs : Lfts 1)
       (a : Args analyse.signature κs) (r : Checked) (x : AtExit analyse.ended κs)
-      → ent 𝓤 (analyse.clauses 𝓤 H A mem run κs a .ensures tt r x) (fact 𝓤 (FillsRow (a .0) (a .1 .0 .now) r (x .1 .0 .now)))
-  pub analyse-all : Answers (analyse-all.Learnt tt) (λ a. record { answer = analysisFault (a .0) maxTasks; rows = analysed (a .0) (a .1 .0) })
+      → ent 𝓤 (analyse.clauses 𝓤 H A mem run κs a .ensures tt r x) (fact 𝓤 (FillsRow (a .0) (a .1 .0) (a .1 .1 .0 .now) r (x .1 .1 .0 .now)))
+  pub analyse-all : Answers (analyse-all.Learnt tt) (λ a. record { answer = analysisFault (a .0) (a .1 .0) maxTasks; rows = analysed (a .0) (a .1 .0) (a .1 .1 .0) })
 
 -- ---- two answers to one input are equal, and so is what then lies in everything lent
 
@@ -111,6 +115,7 @@ pub record Determines : Type 0 where
   pub number : Determined (number.Learnt tt)
   pub empty : Determined (empty.Learnt tt)
   pub check : Determined (check.Learnt tt)
+  pub first-of : Determined (first-of.Learnt tt)
   pub in-range : Determined (in-range.Learnt tt)
   pub times : Determined (times.Learnt tt)
   pub used-in-range : Determined (used-in-range.Learnt tt)
@@ -140,16 +145,19 @@ pub record Determines : Type 0 where
   pub blocks-of : Determined (blocks-of.Learnt tt)
   pub salvage : (κs : Lfts 3) → DeterminedWith {H = List ℕ × List ℕ} (λ x. (x .1 .0 .now, x .1 .1 .0 .now)) (salvage.Learnt κs)
   pub bound : Determined (bound.Learnt tt)
-  pub verdict-of : Determined (verdict-of.Learnt tt)
+  pub outcome-of : Determined (outcome-of.Learnt tt)
   pub shares-of : Determined (shares-of.Learnt tt)
   pub analyse-all : Determined (analyse-all.Learnt tt)
-  pub analyse : (t : Table) (row : List Record) (r s : Checked) (x y : List Record)
-      → FillsRow t row r x → FillsRow t row s y → (r ≡ s) × (x ≡ y)
+  pub analyse : (t : Table) (allowance : ℕ) (row : List Record) (r s : Checked) (x y : List Record)
+      → FillsRow t allowance row r x → FillsRow t allowance row s y → (r ≡ s) × (x ≡ y)
+  pub page-of : (κs : Lfts 1) → Determined (page-of.Learnt κs)
+  pub put-header : (κs : Lfts 1) → DeterminedWith (λ x. x .0 .now) (put-header.Learnt κs)
+  pub put-row : (κs : Lfts 2) → DeterminedWith (λ x. x .0 .now) (put-row.Learnt κs)
 
 -- ---- a refusal leaves everything lent as it was
 
 pub record Keeps : Type 0 where
-  pub row : (t : Table) (row : List Record) (r : Refusal) → analysisFault t (length row) ≡ Refused r → analysed t row ≡ row
+  pub row : (t : Table) (allowance : ℕ) (row : List Record) (r : Refusal) → analysisFault t allowance (length row) ≡ Refused r → analysed t allowance row ≡ row
   pub output : (t : Table) (out : List ℕ) (r : Refusal) → writeFault t (length out) ≡ Refused r → written t out ≡ out
   pub field : (text out : List ℕ) → putAnswer text out ≡ Short → putInto text out ≡ out
   -- "a refused reading gives no table"
@@ -185,9 +193,12 @@ pub record FirstDecides : Type 0 where
       → Refuses (firstFault n f) k p exactly-if ((i : ℕ) × (i < n) × Refuses (f i) k p × ((j : ℕ) → j < i → f j ≡ Fine))
   -- a table is accepted exactly if it holds the paper's bounds
   pub fine : (t : Table) → (tableFault t ≡ Fine) exactly-if Accepted t
-  -- after the table's own: 10, and 11 for a row and for an output, be it of a listing or of an archive
-  pub ten : (t : Table) (i : Level) → tableFault t ≡ Fine → Refuses (boundFault t i) 10 0 exactly-if ((i .0 ≡ 0) ⊎ (t .n < i .0))
-  pub eleven-row : (t : Table) (room : ℕ) → tableFault t ≡ Fine → Refuses (analysisFault t room) 11 0 exactly-if (room < t .n)
+  -- after the table's own: 10, and 16 only after it, of a task; 16, and 11 only after it, of a row; and 11 of an output, be it of a listing or of an archive
+  pub ten : (t : Table) (i : Level) (allowance : ℕ) → tableFault t ≡ Fine → Refuses (boundFault t i allowance) 10 0 exactly-if ((i .0 ≡ 0) ⊎ (t .n < i .0))
+  pub sixteen-task : (t : Table) (i : Level) (allowance : ℕ) → tableFault t ≡ Fine
+      → Refuses (boundFault t i allowance) 16 0 exactly-if (((1 ≤ i .0) × (i .0 ≤ t .n)) × (allowance ≡ 0))
+  pub sixteen-row : (t : Table) (allowance room : ℕ) → tableFault t ≡ Fine → Refuses (analysisFault t allowance room) 16 0 exactly-if (allowance ≡ 0)
+  pub eleven-row : (t : Table) (allowance room : ℕ) → tableFault t ≡ Fine → Refuses (analysisFault t allowance room) 11 0 exactly-if ((1 ≤ allowance) × (room < t .n))
   pub eleven-output : (t : Table) (room : ℕ) → tableFault t ≡ Fine → Refuses (writeFault t room) 11 0 exactly-if (room < length (textOf t))
   pub eleven-archiving : (t : Table) (room : ℕ) → tableFault t ≡ Fine → Refuses (archivingFault t room) 11 0 exactly-if (room < blockSize * t .n)
 

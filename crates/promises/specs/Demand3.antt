@@ -3,7 +3,6 @@ use Prim.Native.Nat.{ℕ, _+_, _-_, _≤_, _<_}
 use mathlib.Core.Path.{_≡_}
 use mathlib.Core.List.{List, [], _∷_, _++_}
 use lib.ListN.{length, replicate}
-use Rattle.table.specs.declared.Level.{Level}
 use Rattle.table.specs.declared.Pair.{Pair}
 use Rattle.table.specs.declared.Task.{Task}
 use Rattle.table.specs.declared.Table.{Table}
@@ -12,12 +11,10 @@ use Rattle.table.specs.Limits.{maxTasks, maxResources}
 use Rattle.table.specs.Empty.{unusedPair, emptyTask}
 use Rattle.table.specs.At.{aPair, aTask}
 use Rattle.table.specs.Rules.{tableFault}
-use Rattle.theory.specs.declared.Verdict.the-variants.{Meets, Misses}
-use Rattle.theory.specs.View.{level}
+use Rattle.theory.specs.Bound.{Least, None}
 use Rattle.theory.specs.Harder.{Harder}
-use Rattle.analysis.specs.declared.Answer.the-variants.{Known}
 use Rattle.theory.specs.Tables.{viewOf}
-use Rattle.analysis.specs.Answers.{boundOf}
+use Rattle.promises.specs.Demand2.{demandIn, deadlineIn}
 
 -- two accepted tables, the second being the first made harder (`Harder` names the rules one by one)
 pub record MadeHarder (a b : Table) : Type 0 where
@@ -25,11 +22,12 @@ pub record MadeHarder (a b : Table) : Type 0 where
   pub second : tableFault b ≡ Fine
   pub harder : Harder (viewOf a) (viewOf b)
 
--- "For each task of the first: if the second gives it a bound, the first gives it one too, and no larger."
+-- "For each task of the first: if the second gives it a bound, the first gives it one too, and no larger." A bound is demand 2's, where no allowance of rounds enters:
+-- the first can need more rounds than the second (`overtakes` of `Rounds`), so that of verdicts under one small allowance this would be false
 abbrev pub Demand3 : Type 0
 Demand3 =
-    (a b : Table) → MadeHarder a b → (i : ℕ) → i < a .n → (u : ℕ) → boundOf b (level i) ≡ Known (Meets u)
-    → (w : ℕ) × (boundOf a (level i) ≡ Known (Meets w)) × (w ≤ u)
+    (a b : Table) → MadeHarder a b → (i : ℕ) → i < a .n → (u : ℕ) → Least (demandIn b i) (deadlineIn b i) u
+    → (w : ℕ) × Least (demandIn a i) (deadlineIn a i) w × (w ≤ u)
 
 -- ---- that is not said of nothing: case A, and case A made harder
 
@@ -50,21 +48,21 @@ caseA m N T c below =
           ∷ (below ++ replicate (maxTasks - 3 - length below) emptyTask);
     }
 
--- a made harder is b, and the bound of task i goes from u to w
-pub record Grows (a b : Table) (i : Level) (u w : ℕ) : Type 0 where
+-- a made harder is b, and the bound of the task at slot i goes from u to w
+pub record Grows (a b : Table) (i u w : ℕ) : Type 0 where
   pub harder : MadeHarder a b
-  pub before : boundOf a i ≡ Known (Meets u)
-  pub after : boundOf b i ≡ Known (Meets w)
+  pub before : Least (demandIn a i) (deadlineIn a i) u
+  pub after : Least (demandIn b i) (deadlineIn b i) w
 
 pub record NotEmpty : Type 0 where
   -- a longer request below: task 1 waits longer for it
-  pub longer : Grows (caseA 2 1 20_000 750 []) (caseA 2 1 20_000 1_000 []) (level 0) 3_250 3_500
+  pub longer : Grows (caseA 2 1 20_000 750 []) (caseA 2 1 20_000 1_000 []) 0 3_250 3_500
   -- more requests: it waits so often that it can miss its deadline
   pub oftener : MadeHarder (caseA 2 1 20_000 750 []) (caseA 2 20 20_000 750 [])
-  pub misses : boundOf (caseA 2 20 20_000 750 []) (level 0) ≡ Known Misses
+  pub misses : None (demandIn (caseA 2 20 20_000 750 []) 0) (deadlineIn (caseA 2 20 20_000 750 []) 0)
   -- fewer processors: task 2 loses the short form
-  pub fewer : Grows (caseA 2 1 20_000 750 []) (caseA 1 1 20_000 750 []) (level 1) 4_000 14_500
+  pub fewer : Grows (caseA 2 1 20_000 750 []) (caseA 1 1 20_000 750 []) 1 4_000 14_500
   -- and of task 3, which is below the m-th: fewer processors, a shorter period above it, a task added at the bottom
-  pub fewer-third : Grows (caseA 2 1 20_000 750 []) (caseA 1 1 20_000 750 []) (level 2) 14_500 22_000
-  pub shorter : Grows (caseA 1 1 20_000 750 []) (caseA 1 1 15_000 750 []) (level 2) 22_000 28_000
-  pub added : Grows (caseA 2 1 20_000 750 []) (caseA 2 1 20_000 750 (using1 40_000 3_000 40_000 (aPair 1 900 900) ∷ [])) (level 2) 14_500 17_200
+  pub fewer-third : Grows (caseA 2 1 20_000 750 []) (caseA 1 1 20_000 750 []) 2 14_500 22_000
+  pub shorter : Grows (caseA 1 1 20_000 750 []) (caseA 1 1 15_000 750 []) 2 22_000 28_000
+  pub added : Grows (caseA 2 1 20_000 750 []) (caseA 2 1 20_000 750 (using1 40_000 3_000 40_000 (aPair 1 900 900) ∷ [])) 2 14_500 17_200

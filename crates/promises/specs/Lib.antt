@@ -6,7 +6,8 @@
 --   Archives  request 2/12: writing and reading an archive undo each other, one archive for one table, and a changed byte is noticed
 --   Window    request 3/12: no workload is more than t in a window of t, none falls as x grows, and every bound is kept or smaller
 --   Salvages  request 5/12: what is made of a card with bad blocks is an archive, nothing is invented, and a spoiled card gives its archive back
---   Points    the paper's points marked P, two of them as request 3/12 has them
+--   Rounds    request 6/12: how many rounds a verdict takes, at most D − C + 1, and what an allowance of them makes of it
+--   Points    the paper's points marked P, two of them as request 3/12 has them, and the reports with request 6/12's rounds
 --   Words     what these are made of
 pub mod Words
 pub mod Demand1
@@ -16,4 +17,5 @@ pub mod Decimals
 pub mod Archives
 pub mod Window
 pub mod Salvages
+pub mod Rounds
 pub mod Points

@@ -1,4 +1,4 @@
--- The paper's points marked P, every one, two of them as request 3/12 has them: one list, one statement over it.
+-- The paper's points marked P, every one, two of them as request 3/12 has them, and the reports with request 6/12's rounds: one list, one statement over it.
 use Prim.Native.Nat.{ℕ}
 use Prim.Native.String.{String}
 use mathlib.Core.Path.{_≡_}
@@ -10,18 +10,20 @@ use Rattle.field.specs.declared.Field.the-variants.{Value}
 use Rattle.field.specs.declared.Rounding.the-variants.{Down, Up}
 use Rattle.field.specs.Number.{timeField}
 use Rattle.theory.specs.Work.{workload}
-use Rattle.page.specs.Report.{reportText}
+use Rattle.page.specs.Report.{reportAllowance, benchAllowance, reportText}
 
 pub data Point : Type 0 where
-  -- a listing, and the report on it
+  -- a listing, and what `report` and `bench` print on it
   reports : String → String → Point
+  benches : String → String → Point
   -- T, D, t, x, and the workload
   loads : ℕ → ℕ → ℕ → ℕ → ℕ → Point
   -- a field, and the microseconds that it reads as, whichever way it is rounded
   reads : String → ℕ → Point
 
 unfoldable pub Holds : Point → Type 0
-Holds (reports listing text) = reportText (bytes listing) ≡ bytes text
+Holds (reports listing text) = reportText reportAllowance (bytes listing) ≡ bytes text
+Holds (benches listing text) = reportText benchAllowance (bytes listing) ≡ bytes text
 Holds (loads T D t x w) = workload T D t x ≡ w
 Holds (reads text us) =
     let value = Value us (length (bytes text)) in
@@ -34,18 +36,22 @@ pub data All : List Point → Type 0 where
 
 unfoldable pub points : List Point
 points =
-    -- case A's three bounds
+    -- case A's three bounds, and their rounds: "case A gives 2, 1 and 6"
     reports
     "cpus 2\ntask 10 2.5 10\nuse 1 1 0.5 0.5\ntask 20 4 15\ntask 30 6 30\nuse 1 2 0.75 1.5\n"
-    "task verdict bound_us\n1 meets 3250\n2 meets 4000\n3 meets 14500\n"
+    "task verdict bound_us rounds\n1 meets 3250 2\n2 meets 4000 1\n3 meets 14500 6\n"
     -- with task 3's D 14.5 it meets at 14,500
     ∷ reports
     "cpus 2\ntask 10 2.5 10\nuse 1 1 0.5 0.5\ntask 20 4 15\ntask 30 6 14.5\nuse 1 2 0.75 1.5\n"
-    "task verdict bound_us\n1 meets 3250\n2 meets 4000\n3 meets 14500\n"
+    "task verdict bound_us rounds\n1 meets 3250 2\n2 meets 4000 1\n3 meets 14500 6\n"
     -- with 14.499 it misses
     ∷ reports
     "cpus 2\ntask 10 2.5 10\nuse 1 1 0.5 0.5\ntask 20 4 15\ntask 30 6 14.499\nuse 1 2 0.75 1.5\n"
-    "task verdict bound_us\n1 meets 3250\n2 meets 4000\n3 misses -\n"
+    "task verdict bound_us rounds\n1 meets 3250 2\n2 meets 4000 1\n3 misses - 5\n"
+    -- request 6/12: `bench` allows five rounds, and task 3 of case A takes six
+    ∷ benches
+    "cpus 2\ntask 10 2.5 10\nuse 1 1 0.5 0.5\ntask 20 4 15\ntask 30 6 30\nuse 1 2 0.75 1.5\n"
+    "task verdict bound_us rounds\n1 meets 3250 2\n2 meets 4000 1\n3 open - 5\n"
     -- T 10, D 8, x 3: workload 0 at t 0, 3 at 4, 3 at 5, 5 at 7, 6 at 8
     ∷ loads 10 8 0 3 0
     ∷ loads 10 8 4 3 3

@@ -8,16 +8,12 @@ use Rattle.table.specs.declared.Table.{Table}
 use Rattle.table.specs.declared.Checked.the-variants.{Fine}
 use Rattle.table.specs.Rules.{tableFault}
 use Rattle.listing.specs.Read.{readListing}
-use Rattle.theory.specs.declared.Verdict.{Verdict}
-use Rattle.theory.specs.declared.Verdict.the-variants.{Meets, Misses}
 use Rattle.theory.specs.Work.{uncapped, workload}
 use Rattle.theory.specs.View.{level}
 use Rattle.theory.specs.Demand.{loadOf, demandWith}
-use Rattle.theory.specs.Verdict.{Least, verdictOf}
+use Rattle.theory.specs.Bound.{Least, None}
 use Rattle.theory.specs.Tables.{viewOf}
-use Rattle.analysis.specs.declared.Answer.the-variants.{Known}
-use Rattle.analysis.specs.Answers.{boundOf}
-use Rattle.page.specs.Report.{reportText}
+use Rattle.page.specs.Report.{reportAllowance, reportText}
 use Rattle.promises.specs.Demand2.{demandIn, runIn, deadlineIn}
 
 -- the demand of a task by document 01's workload
@@ -43,7 +39,7 @@ pub record Window : Type 0 where
   pub read : (t : Table) (i s : ℕ) → demandIn t i s ≡ demandWith workload (viewOf t) (level i) s
   -- "every task that had a bound keeps one, and no bound may become larger than before"
   pub keeps : (t : Table) (i : ℕ) → tableFault t ≡ Fine → i < t .n → (u : ℕ) → Least (uncappedDemandIn t i) (deadlineIn t i) u
-      → (w : ℕ) × (boundOf t (level i) ≡ Known (Meets w)) × (w ≤ u)
+      → (w : ℕ) × Least (demandIn t i) (deadlineIn t i) w × (w ≤ u)
 
 -- ---- the developer's story, computed: examples/before-shortening.txt, and the same with the second task shortened from 6 ms to 5, examples/shortened.txt
 
@@ -57,17 +53,20 @@ shortened = "cpus 2\ntask 3 1 3\ntask 6 5 6\ntask 4 1 4\n"
 abbrev pub relaxed : String
 relaxed = "cpus 2\ntask 3 1 3\ntask 6 5 6\ntask 5 1 5\n"
 
--- the verdict on the third task of a listing by document 01's workload
-abbrev pub thirdUncapped : String → Verdict
-thirdUncapped s = let t = readListing (bytes s) .table in verdictOf (uncappedDemandIn t 2) (deadlineIn t 2)
+-- the demand of the third task of a listing by document 01's workload, and its deadline
+abbrev pub thirdUncapped : String → ℕ → ℕ
+thirdUncapped s = uncappedDemandIn (readListing (bytes s) .table) 2
+
+abbrev pub thirdDeadline : String → ℕ
+thirdDeadline s = deadlineIn (readListing (bytes s) .table) 2
 
 pub record Story : Type 0 where
   -- "A developer shortened a task and another task's verdict went from meets to misses"
-  pub met : thirdUncapped before ≡ Meets 4_000
-  pub missed : thirdUncapped shortened ≡ Misses
+  pub met : Least (thirdUncapped before) (thirdDeadline before) 4_000
+  pub missed : None (thirdUncapped shortened) (thirdDeadline shortened)
   -- now it meets in both
-  pub meets : reportText (bytes before) ≡ bytes "task verdict bound_us\n1 meets 1000\n2 meets 6000\n3 meets 4000\n"
-  pub still-meets : reportText (bytes shortened) ≡ bytes "task verdict bound_us\n1 meets 1000\n2 meets 5000\n3 meets 4000\n"
+  pub meets : reportText reportAllowance (bytes before) ≡ bytes "task verdict bound_us rounds\n1 meets 1000 1\n2 meets 6000 1\n3 meets 4000 13\n"
+  pub still-meets : reportText reportAllowance (bytes shortened) ≡ bytes "task verdict bound_us rounds\n1 meets 1000 1\n2 meets 5000 1\n3 meets 4000 13\n"
   -- and a bound that is smaller than before
-  pub met-late : thirdUncapped relaxed ≡ Meets 5_000
-  pub meets-earlier : reportText (bytes relaxed) ≡ bytes "task verdict bound_us\n1 meets 1000\n2 meets 5000\n3 meets 4000\n"
+  pub met-late : Least (thirdUncapped relaxed) (thirdDeadline relaxed) 5_000
+  pub meets-earlier : reportText reportAllowance (bytes relaxed) ≡ bytes "task verdict bound_us rounds\n1 meets 1000 1\n2 meets 5000 1\n3 meets 4000 13\n"

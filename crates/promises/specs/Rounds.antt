@@ -1,0 +1,60 @@
+-- Request 6/12 of document 02: how many rounds. That an allowance of 0 is refused is in demand 1, and when a verdict is open in demand 2 too.
+use Prim.Native.Nat.{ℕ, suc, _+_, _-_, _≤_, _<_}
+use mathlib.Core.Path.{_≡_}
+use mathlib.Core.List.{List, []}
+use Rattle.basics.specs.Exactly.{_exactly-if_}
+use Rattle.table.specs.declared.Table.{Table}
+use Rattle.table.specs.declared.Checked.the-variants.{Fine}
+use Rattle.table.specs.Rules.{tableFault}
+use Rattle.table.specs.Answers.{accepted}
+use Rattle.listing.specs.Read.{readListing}
+use Rattle.theory.specs.declared.Verdict.the-variants.{Meets, Open}
+use Rattle.theory.specs.declared.Counted.{Counted}
+use Rattle.theory.specs.View.{level}
+use Rattle.theory.specs.Rounds.{lengthAfter, Ends}
+use Rattle.analysis.specs.declared.Answer.the-variants.{Known}
+use Rattle.analysis.specs.Answers.{boundOf}
+use Rattle.page.specs.Report.{reportAllowance, benchAllowance, rowText, pageText, reportText}
+use Rattle.promises.specs.Demand2.{demandIn, runIn, deadlineIn, CountIn}
+use Rattle.promises.specs.Demand3.{MadeHarder, caseA}
+
+-- the round at the length after k rounds is the last: the length "repeats or passes D"
+abbrev pub LastIn : Table → ℕ → ℕ → Type 0
+LastIn t i k = Ends (demandIn t i) (deadlineIn t i) (lengthAfter (demandIn t i) k (runIn t i))
+
+-- a verdict on a task of an accepted table and its rounds, so many of them allowed:
+pub record RightRounds (t : Table) (i allowance : ℕ) (r : Counted) : Type 0 where
+  -- the verdict is open "exactly when it runs out with the length neither repeated nor past D": no round that is allowed is the last
+  pub runs-out : (r .verdict ≡ Open) exactly-if ((k : ℕ) → k < allowance → LastIn t i k → ⊥)
+  -- then the rounds are the allowance, else "the count of that definition"
+  pub used-up : r .verdict ≡ Open → r .rounds ≡ allowance
+  pub counted : (r .verdict ≡ Open → ⊥) → CountIn t i (r .rounds)
+  -- never are there more than D − C + 1
+  pub most : r .rounds ≤ deadlineIn t i - runIn t i + 1
+
+-- under this allowance, of a table and one made harder: the second meets after n rounds, and the first, which needs more, is open
+pub record Overtakes (a b : Table) (i allowance u n : ℕ) : Type 0 where
+  pub harder : MadeHarder a b
+  pub first : boundOf a (level i) allowance ≡ Known (record { verdict = Open; rounds = allowance })
+  pub second : boundOf b (level i) allowance ≡ Known (record { verdict = Meets u; rounds = n })
+
+pub record Rounds : Type 0 where
+  -- what `bound` answers of a task is right
+  pub right : (t : Table) (i allowance : ℕ) (r : Counted) → boundOf t (level i) allowance ≡ Known r → RightRounds t i allowance r
+  -- the count without an allowance is one number, and "at most D − C + 1"
+  pub count : (t : Table) (i : ℕ) → tableFault t ≡ Fine → i < t .n
+      → (n : ℕ) × CountIn t i n × ((m : ℕ) → CountIn t i m → m ≡ n) × (n ≤ deadlineIn t i - runIn t i + 1)
+  -- "A verdict other than `open` given under one allowance stays the same under every larger one", and so does its count
+  pub stays : (t : Table) (i A B : ℕ) (r : Counted) → A ≤ B → boundOf t (level i) A ≡ Known r → (r .verdict ≡ Open → ⊥)
+      → boundOf t (level i) B ≡ Known r
+  -- "a fourth column `rounds`": of an accepted listing a row is printed for each task, with the verdict and the rounds that `bound` answers under the program's allowance
+  pub prints : (allowance : ℕ) (s : List ℕ) (t : Table) → 1 ≤ allowance → readListing s ≡ accepted t
+      → (row : ℕ → Counted) × (reportText allowance s ≡ pageText (t .n) (λ i. rowText (suc i) (row i .verdict) (row i .rounds)))
+      × ((i : ℕ) → i < t .n → boundOf t (level i) allowance ≡ Known (row i))
+  -- under the allowance of `report` none is open,
+  pub never-open : (t : Table) (i : ℕ) (r : Counted) → boundOf t (level i) reportAllowance ≡ Known r → r .verdict ≡ Open → ⊥
+  -- so that demand 3 holds of what `bound` answers under it, which by `prints` is what `report` prints;
+  pub harder : (a b : Table) → MadeHarder a b → (i : ℕ) → i < a .n → (u n : ℕ) → boundOf b (level i) reportAllowance ≡ Known (record { verdict = Meets u; rounds = n })
+      → (w : ℕ) × (m : ℕ) × (boundOf a (level i) reportAllowance ≡ Known (record { verdict = Meets w; rounds = m })) × (w ≤ u)
+  -- and under the allowance of `bench`, so of what that prints, it does not: task 3 of case A on two processors, where it takes six rounds, and on one
+  pub overtakes : Overtakes (caseA 2 1 20_000 750 []) (caseA 1 1 20_000 750 []) 2 benchAllowance 22_000 4
