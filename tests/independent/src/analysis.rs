@@ -1,4 +1,4 @@
-//! The bound of each task, written from the paper's section 'The analysis' and request 3/12.
+//! The bound of each task and the rounds that it takes, written from the paper's section 'The analysis' and requests 3/12 and 6/12.
 
 use crate::listing;
 use crate::table::{Table, Task, LOCKS};
@@ -6,10 +6,48 @@ use crate::table::{Table, Task, LOCKS};
 /// Up to this deadline every length is tried, and the climb is held to what that finds.
 const TRIED: u64 = 3_000;
 
+/// More rounds than any table takes: the allowance that never runs out.
+pub const UNLIMITED: u64 = u64::MAX;
+
 #[derive(Clone, Copy, PartialEq, Eq, Debug)]
 pub enum Verdict {
     Meets(u64),
     Misses,
+    Open,
+}
+
+/// What is said of a task: the verdict, and how many demands were worked out for it.
+#[derive(Clone, Copy, PartialEq, Eq, Debug)]
+pub struct Found {
+    pub verdict: Verdict,
+    pub rounds: u64,
+}
+
+impl Found {
+    pub fn meets(bound: u64, rounds: u64) -> Found {
+        Found { verdict: Verdict::Meets(bound), rounds }
+    }
+
+    pub fn misses(rounds: u64) -> Found {
+        Found { verdict: Verdict::Misses, rounds }
+    }
+
+    pub fn open(rounds: u64) -> Found {
+        Found { verdict: Verdict::Open, rounds }
+    }
+
+    /// The bound, to compare by: that of a task without one is above all others.
+    pub fn bound(&self) -> u64 {
+        match self.verdict {
+            Verdict::Meets(t) => t,
+            Verdict::Misses | Verdict::Open => u64::MAX,
+        }
+    }
+
+    /// What becomes of it under an allowance: it is open exactly if it takes more rounds than that, and then all that are allowed were taken.
+    pub fn under(self, allowance: u64) -> Found {
+        if allowance < self.rounds { Found::open(allowance) } else { self }
+    }
 }
 
 /// The workload of a task over a length t, of which x units count, as the paper has it; x is at most the task's C.
@@ -178,22 +216,27 @@ impl Reduced {
     }
 }
 
-/// The demands worked out from C on, until one repeats or passes D; and how many they were.
-pub fn iterate(table: &Table, i: usize, by: By) -> (Verdict, u64) {
-    let task = &table.tasks[i];
-    let reduced = Reduced::new(table, i, by);
-    let (mut t, mut rounds) = (task.c, 0);
-    loop {
-        let f = reduced.demand(t);
+/// Request 6/12: a length, C to begin with, is replaced by the demand at it until it repeats or passes D, or no more rounds are allowed.
+pub fn replaced(c: u64, d: u64, allowance: u64, demand: impl Fn(u64) -> u64) -> Found {
+    let (mut t, mut rounds) = (c, 0);
+    while rounds < allowance {
+        let f = demand(t);
         rounds += 1;
-        if f <= t {
-            return (Verdict::Meets(t), rounds);
+        if f == t {
+            return Found::meets(t, rounds);
         }
-        if f > task.d {
-            return (Verdict::Misses, rounds);
+        if f > d {
+            return Found::misses(rounds);
         }
         t = f;
     }
+    Found::open(rounds)
+}
+
+/// The same of the task at `i` (from 0) of a checked table.
+pub fn iterate(table: &Table, i: usize, by: By, allowance: u64) -> Found {
+    let reduced = Reduced::new(table, i, by);
+    replaced(table.tasks[i].c, table.tasks[i].d, allowance, |t| reduced.demand(t))
 }
 
 /// The demand by the paper's terms. `Reduced` is held to it at this length: it has the shape of the proved program's shares, and might have
@@ -212,7 +255,7 @@ fn tried(table: &Table, i: usize, by: By) -> Verdict {
 
 /// The same without trying each: no length below C covers its demand, and as demand never falls, none from a length up to the demand there
 /// does. So a miss too rests on the paper's terms, at every round: the ten million of the slow listing take about a second.
-fn climbed(table: &Table, i: usize, by: By) -> (Verdict, u64) {
+fn climbed(table: &Table, i: usize, by: By) -> Found {
     let task = &table.tasks[i];
     let reduced = Reduced::new(table, i, by);
     let (mut t, mut rounds) = (task.c, 0);
@@ -220,30 +263,45 @@ fn climbed(table: &Table, i: usize, by: By) -> (Verdict, u64) {
         let f = agreed(table, i, &reduced, t);
         rounds += 1;
         if f <= t {
-            return (Verdict::Meets(t), rounds);
+            return Found::meets(t, rounds);
         }
         t = f;
     }
-    (Verdict::Misses, rounds)
+    Found::misses(rounds)
 }
 
-/// The verdict on the task at `i`.
-pub fn verdict(table: &Table, i: usize) -> Verdict {
-    verdict_by(table, i, By::Capped)
+/// What is said of the task at `i` if its rounds are not limited.
+pub fn found(table: &Table, i: usize) -> Found {
+    found_by(table, i, By::Capped)
 }
 
-/// The verdict by one workload or the other, by the paper's terms. Where it can, it holds the climb to a search through every length; and
-/// always the iteration to the climb.
-pub fn verdict_by(table: &Table, i: usize, by: By) -> Verdict {
-    let (found, rounds) = climbed(table, i, by);
-    if table.tasks[i].d <= TRIED {
-        assert_eq!(found, tried(table, i, by), "the climb and the search differ: task {} of\n{}", i + 1, listing::write(table));
+/// The same by one workload or the other, by the paper's terms. Where it can, it holds the climb to a search through every length; and always
+/// the iteration to the climb, and the rounds to the D - C + 1 lengths that there are.
+pub fn found_by(table: &Table, i: usize, by: By) -> Found {
+    let task = &table.tasks[i];
+    let at = || format!("task {} of\n{}", i + 1, listing::write(table));
+    let found = climbed(table, i, by);
+    if task.d <= TRIED {
+        assert_eq!(found.verdict, tried(table, i, by), "the climb and the search differ: {}", at());
     }
-    assert_eq!(iterate(table, i, by), (found, rounds), "the iteration and the climb differ: task {} of\n{}", i + 1, listing::write(table));
+    assert_eq!(iterate(table, i, by, UNLIMITED), found, "the iteration and the climb differ: {}", at());
+    assert!(found.rounds <= task.d - task.c + 1, "more rounds than lengths: {}", at());
     found
 }
 
-/// Verdicts by the iteration alone, as the benchmark wants them.
-pub fn quick(table: &Table) -> Vec<Verdict> {
-    (0..table.n as usize).map(|i| iterate(table, i, By::Capped).0).collect()
+/// What is said of each task if its rounds are not limited.
+pub fn all(table: &Table) -> Vec<Found> {
+    (0..table.n as usize).map(|i| found(table, i)).collect()
+}
+
+/// What is said of the task at `i` under an allowance. The iteration that stops there is held to what was found without one.
+pub fn allowed(table: &Table, i: usize, found: Found, allowance: u64) -> Found {
+    let stopped = iterate(table, i, By::Capped, allowance);
+    assert_eq!(stopped, found.under(allowance), "an allowance of {allowance} rounds: task {} of\n{}", i + 1, listing::write(table));
+    stopped
+}
+
+/// The same of each task by the iteration alone, as the benchmark wants it.
+pub fn quick(table: &Table, allowance: u64) -> Vec<Found> {
+    (0..table.n as usize).map(|i| iterate(table, i, By::Capped, allowance)).collect()
 }

@@ -1,14 +1,15 @@
 //! Request 3/12, by number: the laws of the new workload, and wrong programs, each with a listing that tells it apart.
 
-use crate::analysis::{demand, quick, terms, uncapped, workload, By, Terms, Verdict};
+use crate::analysis::{demand, quick, replaced, terms, uncapped, workload, By, Found, Terms, Verdict, UNLIMITED};
 use crate::random::Random;
+use crate::report::{self, REPORT};
 use crate::table::{Table, Task};
-use crate::{cases, generate, listing, report};
+use crate::{cases, generate, listing};
 
 /// How far the laws are tried: every period and every length up to these.
 const PERIODS: u64 = 12;
 const LENGTHS: u64 = 40;
-/// How many tables are made for what no listing shows, and the deadlines of those that are tried.
+/// How many tables are made for what no verdict shows, and the deadlines of those that are tried.
 const TABLES: u64 = 500;
 const SHORT: u64 = 400;
 
@@ -16,7 +17,7 @@ const SHORT: u64 = 400;
 pub fn hold() {
     laws();
     WRONG.iter().for_each(told_apart);
-    not_told_apart();
+    same_verdicts();
 }
 
 fn task(t: u64, d: u64) -> Task {
@@ -51,41 +52,49 @@ struct Wrong {
 }
 
 const WRONG: &[Wrong] = &[
-    Wrong { name: "no cap", demand: left_out, listing: cases::LONG_ABOVE, right: "3 meets 3", printed: "3 misses -" },
-    Wrong { name: "no cap", demand: left_out, listing: cases::LONGER_ABOVE, right: "3 meets 3", printed: "3 misses -" },
-    Wrong { name: "a cap of t + 1", demand: one_more, listing: cases::LONGER_ABOVE, right: "3 meets 3", printed: "3 meets 4" },
-    Wrong { name: "a cap on S alone", demand: whole_only, listing: cases::LONG_ABOVE, right: "3 meets 3", printed: "3 misses -" },
-    Wrong { name: "no cap on O", demand: not_o, listing: cases::LONG_LOCK_ABOVE, right: "3 meets 3", printed: "3 misses -" },
-    Wrong { name: "no cap on F", demand: not_f, listing: cases::LONG_ABOVE, right: "3 meets 3", printed: "3 misses -" },
-    Wrong { name: "no cap on L", demand: not_l, listing: cases::LONG_LOCK_BELOW, right: "3 meets 4", printed: "3 misses -" },
-    Wrong { name: "a cap on the sum over the tasks", demand: over_the_tasks, listing: cases::TWO_ABOVE, right: "3 misses -", printed: "3 meets 2" },
-    Wrong { name: "a cap on a task's O and F together", demand: o_and_f, listing: cases::O_AND_F, right: "3 misses -", printed: "3 meets 3" },
-    Wrong { name: "a cap on a task's S, O and F together", demand: s_o_and_f, listing: cases::S_AND_F, right: "3 misses -", printed: "3 meets 5" },
-    Wrong { name: "a cap on the quotient", demand: quotient, listing: cases::LONG_ABOVE, right: "3 meets 3", printed: "3 misses -" },
+    Wrong { name: "no cap", demand: left_out, listing: cases::LONG_ABOVE, right: "3 meets 3 3", printed: "3 misses - 2" },
+    Wrong { name: "no cap", demand: left_out, listing: cases::LONGER_ABOVE, right: "3 meets 3 3", printed: "3 misses - 3" },
+    Wrong { name: "a cap of t + 1", demand: one_more, listing: cases::LONGER_ABOVE, right: "3 meets 3 3", printed: "3 meets 4 3" },
+    Wrong { name: "a cap on S alone", demand: whole_only, listing: cases::LONG_ABOVE, right: "3 meets 3 3", printed: "3 misses - 2" },
+    Wrong { name: "no cap on S", demand: divided_only, listing: cases::LONG_SHARED_ABOVE, right: "2 misses - 2", printed: "2 misses - 1" },
+    Wrong { name: "no cap on O", demand: not_o, listing: cases::LONG_LOCK_ABOVE, right: "3 meets 3 3", printed: "3 misses - 2" },
+    Wrong { name: "no cap on F", demand: not_f, listing: cases::LONG_ABOVE, right: "3 meets 3 3", printed: "3 misses - 2" },
+    Wrong { name: "no cap on L", demand: not_l, listing: cases::LONG_LOCK_BELOW, right: "3 meets 4 3", printed: "3 misses - 3" },
+    Wrong { name: "a cap on the sum over the tasks", demand: over_the_tasks, listing: cases::TWO_ABOVE, right: "3 misses - 2", printed: "3 meets 2 2" },
+    Wrong { name: "a cap on a task's O and F together", demand: o_and_f, listing: cases::O_AND_F, right: "3 misses - 2", printed: "3 meets 3 3" },
+    Wrong { name: "a cap on a task's S, O and F together", demand: s_o_and_f, listing: cases::S_AND_F, right: "3 misses - 3", printed: "3 meets 5 4" },
+    Wrong { name: "a cap on the quotient", demand: quotient, listing: cases::LONG_ABOVE, right: "3 meets 3 3", printed: "3 misses - 3" },
 ];
 
-/// The report by some demand, every length tried.
-fn printed(table: &Table, demand: Demand) -> String {
-    let verdict = |i: usize| (1..=table.tasks[i].d).find(|&t| demand(table, i, t) <= t).map_or(Verdict::Misses, Verdict::Meets);
-    report::accepted(&(0..table.n as usize).map(verdict).collect::<Vec<_>>())
+/// What is said of each task by some demand: the rounds by its iteration, and the verdict by every length too.
+fn by_demand(table: &Table, demand: Demand) -> Vec<Found> {
+    let found = |(i, task): (usize, &Task)| {
+        let found = replaced(task.c, task.d, UNLIMITED, |t| demand(table, i, t));
+        let tried = (1..=task.d).find(|&t| demand(table, i, t) <= t).map_or(Verdict::Misses, Verdict::Meets);
+        assert_eq!(found.verdict, tried, "the iteration and the search differ: task {} of\n{}", i + 1, listing::write(table));
+        found
+    };
+    table.used().iter().enumerate().map(found).collect()
 }
 
 fn told_apart(wrong: &Wrong) {
     let table = listing::read(wrong.listing.as_bytes()).expect("an accepted listing");
-    let (right, printed) = (report::text(wrong.listing.as_bytes()), printed(&table, wrong.demand));
+    let (right, printed) = (report::text(wrong.listing.as_bytes(), REPORT), report::accepted(&by_demand(&table, wrong.demand)));
     let unlike: Vec<(&str, &str)> = right.lines().zip(printed.lines()).filter(|(a, b)| a != b).collect();
     assert_eq!(unlike, [(wrong.right, wrong.printed)], "{} on\n{}", wrong.name, wrong.listing);
 }
 
-/// A program that caps O, F and L and not S works out other demands, and yet no listing tells it apart. A workload of S that the cap lowers is
-/// t with it and more without; it counts whole, beside a C of 1 or more, so that either way the demand is above t and t is no bound.
-fn not_told_apart() {
+/// A program that caps O, F and L and not S works out other demands, and yet no verdict tells it apart. A workload of S that the cap lowers is
+/// t with it and more without; it counts whole, beside a C of 1 or more, so that either way the demand is above t and t is no bound. The
+/// length climbs faster, so that the rounds of request 6/12 do tell.
+fn same_verdicts() {
     let case_a = listing::read(cases::CASE_A.as_bytes()).expect("an accepted listing");
     assert_eq!([demand(&case_a, 2, 100, By::Capped), divided_only(&case_a, 2, 100)], [6_200, 6_600]);
+    let verdicts = |all: Vec<Found>| all.iter().map(|found| found.verdict).collect::<Vec<_>>();
     let mut r = Random::new(5);
     let tables = (0..TABLES).map(|_| generate::long_among_short(&mut r));
     for table in tables.filter(|table| table.used().iter().all(|task| task.d <= SHORT)) {
-        assert_eq!(printed(&table, divided_only), report::accepted(&quick(&table)), "{}", listing::write(&table));
+        assert_eq!(verdicts(by_demand(&table, divided_only)), verdicts(quick(&table, UNLIMITED)), "{}", listing::write(&table));
     }
 }
 

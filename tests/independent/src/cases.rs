@@ -81,8 +81,22 @@ task 0.005 0.001 0.005
 use 1 1 0.001 0.001
 ";
 
+/// Without a cap on S, which is what task 1 runs under the lock that task 2 uses too, no verdict is another; but task 2 takes a round less.
+pub const LONG_SHARED_ABOVE: &str = "cpus 1
+task 0.003 0.002 0.003
+use 1 2 0.001 0.002
+task 0.002 0.001 0.002
+use 1 1 0.001 0.001
+";
+
 /// The story of request 3/12, which `story` finds: task 2's code gets shorter.
 pub const STORY: [&str; 2] = [include_str!("../../../examples/before-shortening.txt"), include_str!("../../../examples/shortened.txt")];
+
+/// The pair of request 6/12, which `easier` finds: task 1's period gets shorter, and task 2 takes two rounds in place of three.
+pub const EASIER: [&str; 2] = ["cpus 1\ntask 4 1 3\ntask 4 2 4\n", "cpus 1\ntask 3 1 3\ntask 4 2 4\n"];
+
+/// The first demand that is worked out ends it: that of task 1 repeats, and that of task 2 passes its D.
+pub const ONE_ROUND: &str = "cpus 1\ntask 0.001 0.001 0.001\ntask 0.001 0.001 0.001\n";
 
 /// Times, and what they are in microseconds: rounded down, rounded up.
 pub const SPELLED: &[(&str, u64, u64)] = &[
@@ -265,6 +279,17 @@ pub fn longest() -> String {
     every_pair("10000.000000 00016.000000 10000.000000", "00000.000001 00000.999999")
 }
 
+/// Request 6/12: what task 1 runs makes task 2's length climb by one a round, from a C of 1. Task 1 lets go just before task 2's deadline, which
+/// so is its bound, and takes all D - C + 1 rounds that there can be.
+pub fn steps(rounds: u64) -> String {
+    format!("cpus 1\ntask {0} {1} {1}\ntask {0} 0.001 {0}\n", ms(rounds), ms(rounds - 1))
+}
+
+/// The same with a task 1 that never lets go: task 2 misses after as many rounds.
+pub fn no_end(rounds: u64) -> String {
+    format!("cpus 1\ntask {0} {0} {0}\ntask {0} 0.001 {0}\n", ms(rounds))
+}
+
 /// One task above that never lets go makes the demand of the one below climb by one a round.
 fn slow() -> String {
     "cpus 1\ntask 10000 10000 10000\ntask 10000 0.001 10000\n".into()
@@ -393,11 +418,13 @@ pub fn listings() -> Vec<Vec<u8>> {
     all.push((tasks(32) + "task 10 x 10\n").into_bytes());
     all.push((tasks(32) + "use 1 1 0.1 0.1\n").into_bytes());
     all.extend(decimals().into_iter().map(String::into_bytes));
-    let capped = [LONG_ABOVE, LONGER_ABOVE, LONG_LOCK_ABOVE, LONG_LOCK_BELOW, TWO_ABOVE, O_AND_F, S_AND_F, STORY[0], STORY[1]];
+    let capped = [LONG_ABOVE, LONGER_ABOVE, LONG_LOCK_ABOVE, LONG_LOCK_BELOW, TWO_ABOVE, O_AND_F, S_AND_F, LONG_SHARED_ABOVE, STORY[0], STORY[1]];
     all.extend(capped.map(|text| text.as_bytes().to_vec()));
+    all.extend(rounds().into_iter().map(String::into_bytes));
     all.push(largest().into_bytes());
     all.push(longest().into_bytes());
-    all.push(slow().into_bytes());
+    // a miss, and a bound, in the very last round that `report` allows
+    all.extend([slow(), steps(10_000_000)].map(String::into_bytes));
     for length in [BYTES - 1, BYTES, BYTES + 1, BYTES + 2, 2 * BYTES] {
         all.push(vec![b'\n'; length]);
         all.push(vec![b'x'; length]);
@@ -456,6 +483,18 @@ fn decimals() -> Vec<String> {
     // past the last task: 3 comes before 8, and 8 before 4
     all.extend(["10 2.5000001 10", "10 2.500001 10", "10000.001000 1 1", "10 10000.000001 10"].map(|fields| tasks(32) + &format!("task {fields}\n")));
     all.push("cpus 2\ntask 10 2.500001 10".into());
+    all
+}
+
+/// Case A on one processor, which is harder: task 3's bound is larger, and takes fewer rounds.
+pub fn one_processor() -> String {
+    CASE_A.replace("cpus 2", "cpus 1")
+}
+
+/// Request 6/12: about as many rounds as `bench` allows, and harder tables that take fewer.
+pub fn rounds() -> Vec<String> {
+    let mut all = vec![CASE_A.into(), one_processor(), EASIER[0].into(), EASIER[1].into(), ONE_ROUND.into()];
+    all.extend((2..=8).flat_map(|rounds| [steps(rounds), no_end(rounds)]));
     all
 }
 

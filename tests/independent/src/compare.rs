@@ -3,13 +3,14 @@
 use std::collections::BTreeMap;
 use std::fmt;
 use std::io::Write;
-use std::process::{Command, Output, Stdio};
+use std::process::{Child, Command, Output, Stdio};
 
-use crate::analysis::{quick, verdict_by, By, Verdict};
+use crate::analysis::{found_by, quick, By, Found, UNLIMITED};
 use crate::programs::Said;
 use crate::random::Random;
+use crate::report::{self, BENCH, REPORT};
 use crate::table::Table;
-use crate::{cases, generate, listing, report};
+use crate::{cases, generate, listing};
 
 const VALID: u64 = 1_500;
 const DAMAGED: u64 = 2_500;
@@ -24,14 +25,27 @@ pub struct Tally {
 /// What a program wrote, and how it ended.
 pub struct Answer(Output);
 
-/// Runs a program, with this on its standard input.
-pub fn run(program: &str, input: &[u8]) -> Answer {
+/// A program that was started, with all of its input.
+struct Started(Child);
+
+fn start(program: &str, input: &[u8]) -> Started {
     let mut command = Command::new(program);
     command.stdin(Stdio::piped()).stdout(Stdio::piped()).stderr(Stdio::piped());
     let mut child = command.spawn().unwrap_or_else(|e| panic!("{program}: {e}"));
     // a program may stop reading early; then the rest cannot be written, and that is no fault
     let _ = child.stdin.take().unwrap().write_all(input);
-    Answer(child.wait_with_output().unwrap())
+    Started(child)
+}
+
+impl Started {
+    fn answer(self) -> Answer {
+        Answer(self.0.wait_with_output().unwrap())
+    }
+}
+
+/// Runs a program, with this on its standard input.
+pub fn run(program: &str, input: &[u8]) -> Answer {
+    start(program, input).answer()
 }
 
 impl Answer {
@@ -110,8 +124,25 @@ fn outcome(text: &str) -> String {
     let mut words = text.split([' ', '\n']);
     match words.next() {
         Some("refused") => format!("refused {:>2}", words.next().unwrap_or("")),
-        _ if text.contains("misses") => "accepted, with a miss".into(),
-        _ => "accepted, all meet".into(),
+        _ => match (text.contains(" misses "), text.contains(" open ")) {
+            (false, false) => "accepted, all meet".into(),
+            (true, false) => "accepted, with a miss".into(),
+            (false, true) => "accepted, with an open verdict".into(),
+            (true, true) => "accepted, with a miss and an open verdict".into(),
+        },
+    }
+}
+
+/// Tasks that take just the rounds that `bench` allows, and those that take one more, by what `report` says of them.
+fn count_nearly_open(tally: &mut Tally, reported: &str) {
+    for line in reported.lines().skip(1) {
+        if let [_, verdict, _, rounds] = line.split(' ').collect::<Vec<_>>()[..] {
+            match rounds.parse() {
+                Ok(BENCH) => tally.count(format!("{verdict}, just in time")),
+                Ok(rounds) if rounds == BENCH + 1 => tally.count(format!("open, and {verdict} a round later")),
+                _ => (),
+            }
+        }
     }
 }
 
@@ -163,16 +194,13 @@ fn traced(listing: &[u8]) -> bool {
 
 /// Request 3/12: whoever had a bound by the uncapped workload keeps one, no larger. Counts what the cap changes.
 fn capped(tally: &mut Tally, table: &Table) -> bool {
-    let before: Vec<Verdict> = (0..table.n as usize).map(|i| verdict_by(table, i, By::Uncapped)).collect();
+    let before: Vec<Found> = (0..table.n as usize).map(|i| found_by(table, i, By::Uncapped)).collect();
     // the report that was compared has held these to the paper's terms
-    let after = quick(table);
-    let bound = |verdict: &Verdict| match verdict {
-        Verdict::Meets(t) => *t,
-        Verdict::Misses => u64::MAX,
-    };
-    let pairs = || before.iter().zip(&after).map(|(old, new)| (bound(old), bound(new)));
+    let after = quick(table, UNLIMITED);
+    let pairs = || before.iter().zip(&after).map(|(old, new)| (old.bound(), new.bound()));
     if let Some(i) = pairs().position(|(old, new)| new > old) {
-        println!("task {} has a worse verdict by the cap, {:?} and not {:?}, in\n{}", i + 1, after[i], before[i], listing::write(table));
+        let [new, old] = [&after, &before].map(|all| all[i].verdict);
+        println!("task {} has a worse verdict by the cap, {new:?} and not {old:?}, in\n{}", i + 1, listing::write(table));
         return false;
     }
     tally.compared += 1;
@@ -186,41 +214,86 @@ fn capped(tally: &mut Tally, table: &Table) -> bool {
     true
 }
 
-pub fn reports(program: &str) -> bool {
-    let (mut tally, mut with_decimals, mut by_cap) = (Tally::new(), Tally::new(), Tally::new());
+/// What came up in the reports: of `report`, of these where a time has more decimals or the cap counts, and of `bench`.
+struct Reports {
+    all: Tally,
+    with_decimals: Tally,
+    by_cap: Tally,
+    by_bench: Tally,
+    nearly_open: Tally,
+}
+
+impl Reports {
+    fn new() -> Reports {
+        Reports { all: Tally::new(), with_decimals: Tally::new(), by_cap: Tally::new(), by_bench: Tally::new(), nearly_open: Tally::new() }
+    }
+
+    fn count(&mut self, listing: &[u8], reported: &str, benched: &str) {
+        self.all.compared += 1;
+        self.all.count(outcome(reported));
+        if traced(listing) {
+            self.with_decimals.compared += 1;
+            self.with_decimals.count(outcome(reported));
+        }
+        self.by_bench.compared += 1;
+        self.by_bench.count(outcome(benched));
+        count_nearly_open(&mut self.nearly_open, reported);
+    }
+
+    fn print(&self) {
+        self.all.print(&format!("reports: {} compared", self.all.compared));
+        self.with_decimals.print(&format!("of these, {} have a time of four to six decimals", self.with_decimals.compared));
+        self.by_cap.print(&format!("the {} accepted, beside the verdicts by the uncapped workload", self.by_cap.compared));
+        self.by_bench.print(&format!("reports of bench: {} compared", self.by_bench.compared));
+        self.nearly_open.print("their tasks that take as many rounds as it allows, or one more");
+    }
+
+    fn covered(&self) -> bool {
+        let wanted = |refusals: &[u32], accepted: &[&str]| {
+            let refused = refusals.iter().map(|k| format!("refused {k:>2}"));
+            refused.chain(accepted.iter().map(|how| format!("accepted, {how}"))).collect::<Vec<_>>()
+        };
+        let every = [1, 2, 3, 4, 5, 6, 7, 8, 9];
+        let decided = ["all meet", "with a miss"];
+        let open = ["with an open verdict", "with a miss and an open verdict"];
+        let nearly = ["meets, just in time", "misses, just in time", "open, and meets a round later", "open, and misses a round later"];
+        // nothing is read of a listing that gets 1, and no time of one that gets 9
+        self.all.covers(&wanted(&every, &decided))
+            && self.with_decimals.covers(&wanted(&every[1..8], &decided))
+            && self.by_cap.covers(&["a bound is smaller", "a miss became a bound"].map(String::from))
+            && self.by_bench.covers(&wanted(&every, &[decided, open].concat()))
+            && self.nearly_open.covers(&nearly.map(String::from))
+    }
+}
+
+/// Both programs on every listing. They run beside each other and beside the analysis here, which takes less time.
+pub fn reports(report: &str, bench: &str) -> bool {
+    let mut tallies = Reports::new();
     for listing in listings() {
-        let expected = report::text(&listing);
-        if !run(program, &listing).is(&expected) {
-            differs(program, &listing);
+        let started = [report, bench].map(|program| start(program, &listing));
+        let [reported, benched] = report::texts(&listing, [REPORT, BENCH]);
+        assert!(!reported.contains(" open "), "more rounds than report allows:\n{}", String::from_utf8_lossy(&listing));
+        let [by_report, by_bench] = started.map(Started::answer);
+        if !by_report.is(&reported) {
+            differs(report, REPORT, &listing);
             return false;
         }
-        tally.compared += 1;
-        tally.count(outcome(&expected));
-        if traced(&listing) {
-            with_decimals.compared += 1;
-            with_decimals.count(outcome(&expected));
+        if !by_bench.is(&benched) {
+            differs(bench, BENCH, &listing);
+            return false;
         }
-        if listing::read(&listing).is_ok_and(|table| !capped(&mut by_cap, &table)) {
+        tallies.count(&listing, &reported, &benched);
+        if listing::read(&listing).is_ok_and(|table| !capped(&mut tallies.by_cap, &table)) {
             return false;
         }
     }
-    tally.print(&format!("reports: {} compared", tally.compared));
-    with_decimals.print(&format!("of these, {} have a time of four to six decimals", with_decimals.compared));
-    by_cap.print(&format!("the {} accepted, beside the verdicts by the uncapped workload", by_cap.compared));
-    let wanted = |refusals: &[u32]| {
-        let mut all: Vec<String> = refusals.iter().map(|k| format!("refused {k:>2}")).collect();
-        all.extend(["accepted, all meet".into(), "accepted, with a miss".into()]);
-        all
-    };
-    // nothing is read of a listing that gets 1, and no time of one that gets 9
-    tally.covers(&wanted(&[1, 2, 3, 4, 5, 6, 7, 8, 9]))
-        && with_decimals.covers(&wanted(&[2, 3, 4, 5, 6, 7, 8]))
-        && by_cap.covers(&["a bound is smaller", "a miss became a bound"].map(String::from))
+    tallies.print();
+    tallies.covered()
 }
 
 /// Prints a small listing on which the two programs differ: lines are taken out as long as they still do.
-fn differs(program: &str, listing: &[u8]) {
-    let unlike = |bytes: &[u8]| !run(program, bytes).is(&report::text(bytes));
+fn differs(program: &str, allowance: u64, listing: &[u8]) {
+    let unlike = |bytes: &[u8]| !run(program, bytes).is(report::text(bytes, allowance));
     let mut small = listing.to_vec();
     let mut shrunk = true;
     while shrunk {
@@ -236,6 +309,6 @@ fn differs(program: &str, listing: &[u8]) {
         }
     }
     println!("The programs differ on this listing:\n{}", String::from_utf8_lossy(&small));
-    println!("here:\n{}", report::text(&small));
+    println!("here:\n{}", report::text(&small, allowance));
     println!("{program}:\n{}", run(program, &small));
 }

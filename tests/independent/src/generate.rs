@@ -66,6 +66,33 @@ fn task(r: &mut Random, locks: usize, longest: u64, load: u64) -> Task {
     task
 }
 
+/// The same table made harder, as demand 3 has it: no more processors, no period longer, no count of requests or longest request smaller,
+/// perhaps more tasks at the bottom. Everything else is as it was.
+pub fn harder(r: &mut Random, table: &Table) -> Table {
+    let mut harder = table.clone();
+    if r.one_in(2) {
+        harder.m = r.within(1, table.m);
+    }
+    for task in &mut harder.tasks[..table.n as usize] {
+        if r.one_in(2) {
+            task.t = r.within(task.d, task.t);
+        }
+        for lock in task.locks.iter_mut().filter(|lock| lock.n > 0) {
+            if r.one_in(3) {
+                lock.n = r.within(lock.n, (lock.n + 2).min(COUNT));
+                lock.c = r.within(lock.c, lock.ct);
+            }
+        }
+    }
+    let longest = table.used().iter().map(|task| task.t).max().unwrap_or(TIME);
+    while harder.n < TASKS as u64 && r.one_in(3) {
+        harder.tasks[harder.n as usize] = task(r, LOCKS, longest, 20);
+        harder.n += 1;
+    }
+    assert_eq!(harder.check(), Ok(()), "what is made harder must be accepted");
+    harder
+}
+
 /// Some spelling of a time that is rounded to these microseconds. A traced one may be up to 999 ns off: above if it is rounded down, below if
 /// up, so that 1 µs may be 0.000001.
 fn time(r: &mut Random, us: u64, round: Round, traced: bool) -> String {

@@ -1,15 +1,17 @@
 //! A second analyser, written from the paper and the change requests and not from the proved one, to hold that to. It shares no line with it.
 //!
 //!     independent report < LISTING          what `report` is to print
+//!     independent bench < LISTING           what `bench` is to print
 //!     independent archive < LISTING         what `archive` is to write: the card, or a refusal on standard error
 //!     independent unarchive < CARD          what `unarchive` is to write: the listing, or a refusal on standard error
 //!     independent salvage < CARD            what `salvage` is to write: the archive, and on standard error the list and the refusal, if it is one
-//!     independent rounds < LISTING          how many demands the iteration works out, all tasks together
 //!     independent times PROGRAM COMMAND INPUT
 //!                                           the least time of PROGRAM and of COMMAND of this program on INPUT, in microseconds
-//!     independent bench FOLDER              write the benchmark's listings there
+//!     independent listings FOLDER           write the benchmark's listings there
 //!     independent story                     the smallest story of request 3/12: a listing, an empty line, and the listing with one task made shorter
-//!     independent compare REPORT PROBE ARCHIVE UNARCHIVE SALVAGE
+//!     independent easier                    the smallest pair of request 6/12: a listing, an empty line, a harder listing, an empty line, and the
+//!                                           task and the allowance with which the first is open and the second gives a bound
+//!     independent compare REPORT BENCH PROBE ARCHIVE UNARCHIVE SALVAGE
 //!                                           run them on many listings, tables, times and cards and compare; exit 1 on a difference
 
 mod analysis;
@@ -18,6 +20,7 @@ mod card;
 mod cards;
 mod cases;
 mod compare;
+mod easier;
 mod edges;
 mod generate;
 mod listing;
@@ -27,6 +30,7 @@ mod probe;
 mod programs;
 mod random;
 mod report;
+mod rounds;
 mod salvage;
 mod salvages;
 mod story;
@@ -40,20 +44,16 @@ fn main() -> ExitCode {
     let words: Vec<String> = std::env::args().skip(1).collect();
     let words: Vec<&str> = words.iter().map(String::as_str).collect();
     match words[..] {
-        ["report"] => say(Ok(report::quick(&input()).into_bytes())),
+        ["report"] => say(Ok(report::quick(&input(), report::REPORT).into_bytes())),
+        ["bench"] => say(Ok(report::quick(&input(), report::BENCH).into_bytes())),
         ["archive"] => say(programs::archive(&input())),
         ["unarchive"] => say(programs::unarchive(&input())),
         ["salvage"] => say_both(programs::salvage(&input())),
-        ["rounds"] => {
-            let table = listing::read(&input()).expect("an accepted listing");
-            println!("{}", (0..table.n as usize).map(|i| analysis::iterate(&table, i, analysis::By::Capped).1).sum::<u64>());
-            ExitCode::SUCCESS
-        }
         ["times", program, command, path] => {
             measure::times(program, command, path);
             ExitCode::SUCCESS
         }
-        ["bench", folder] => {
+        ["listings", folder] => {
             for (name, text) in cases::benchmark() {
                 std::fs::write(format!("{folder}/{name}"), text).expect("a folder to write to");
             }
@@ -63,9 +63,13 @@ fn main() -> ExitCode {
             print!("{}", story::find().join("\n"));
             ExitCode::SUCCESS
         }
-        ["compare", report, probe, archive, unarchive, salvage] => {
+        ["easier"] => {
+            print!("{}", easier::find().text());
+            ExitCode::SUCCESS
+        }
+        ["compare", report, bench, probe, archive, unarchive, salvage] => {
             points::hold();
-            let same = compare::reports(report)
+            let same = compare::reports(report, bench)
                 && probe::readings(probe)
                 && probe::compare(probe)
                 && probe::longest_text(report, probe)
@@ -80,8 +84,8 @@ fn main() -> ExitCode {
             }
         }
         _ => {
-            eprintln!("usage: independent report | archive | unarchive | salvage | rounds | times PROGRAM COMMAND INPUT | bench FOLDER | story |");
-            eprintln!("       compare REPORT PROBE ARCHIVE UNARCHIVE SALVAGE");
+            eprintln!("usage: independent report | bench | archive | unarchive | salvage | times PROGRAM COMMAND INPUT | listings FOLDER |");
+            eprintln!("       story | easier | compare REPORT BENCH PROBE ARCHIVE UNARCHIVE SALVAGE");
             ExitCode::FAILURE
         }
     }

@@ -1,10 +1,11 @@
 //! The points of the paper and of the requests, by number. They are held against this program first: else it and the proved one could share
 //! a misreading.
 
-use crate::analysis::{demand, terms, uncapped, verdict, verdict_by, workload, By, Terms, Verdict};
+use crate::analysis::{allowed, demand, found, found_by, terms, uncapped, workload, By, Found, Terms, Verdict};
 use crate::listing::Round::{Down, Up};
+use crate::report::{BENCH, REPORT};
 use crate::table::{Lock, Refusal, Table, Task, TIME};
-use crate::{cap, card, cards, cases, listing, programs, report, salvage, salvages, story};
+use crate::{cap, card, cards, cases, easier, listing, probe, programs, report, rounds, salvage, salvages, story};
 
 /// Stops the comparison if a point fails.
 pub fn hold() {
@@ -23,6 +24,9 @@ pub fn hold() {
     cap::hold();
     shortened();
     salvaged();
+    counted();
+    rounds::hold();
+    probe::hold();
     println!("the points of the paper and of the requests hold in this program");
 }
 
@@ -30,16 +34,24 @@ fn table(text: &str) -> Table {
     listing::read(text.as_bytes()).expect("an accepted listing")
 }
 
+/// Case A with another deadline of task 3.
+fn with_deadline(d: &str) -> Table {
+    table(&cases::CASE_A.replace("30 6 30", &format!("30 6 {d}")))
+}
+
+/// The rounds are those of request 6/12, which names them for case A. At 14.5 the repeated demand counts too, at 14.499 the one past D is the
+/// last.
 fn case_a() {
-    let printed = "task verdict bound_us\n1 meets 3250\n2 meets 4000\n3 meets 14500\n";
-    assert_eq!(report::text(cases::CASE_A.as_bytes()), printed);
-    let with_deadline = |d: &str| table(&cases::CASE_A.replace("30 6 30", &format!("30 6 {d}")));
+    let printed = "task verdict bound_us rounds\n1 meets 3250 2\n2 meets 4000 1\n3 meets 14500 6\n";
+    assert_eq!(report::text(cases::CASE_A.as_bytes(), REPORT), printed);
+    assert_eq!(report::text(cases::CASE_A.as_bytes(), BENCH), printed.replace("meets 14500 6", "open - 5"));
     let lengths = [6_000, 11_000, 12_500, 13_500, 14_250, 14_500, 14_500];
+    let all = [Found::meets(3_250, 2), Found::meets(4_000, 1), Found::meets(14_500, 6)];
     // request 3/12 leaves it as it was
     for by in [By::Capped, By::Uncapped] {
-        assert_eq!([0, 1, 2].map(|i| verdict_by(&with_deadline("30"), i, by)), [3_250, 4_000, 14_500].map(Verdict::Meets));
-        assert_eq!(verdict_by(&with_deadline("14.5"), 2, by), Verdict::Meets(14_500));
-        assert_eq!(verdict_by(&with_deadline("14.499"), 2, by), Verdict::Misses);
+        assert_eq!([0, 1, 2].map(|i| found_by(&with_deadline("30"), i, by)), all);
+        assert_eq!(found_by(&with_deadline("14.5"), 2, by), Found::meets(14_500, 6));
+        assert_eq!(found_by(&with_deadline("14.499"), 2, by), Found::misses(5));
         for pair in lengths.windows(2) {
             assert_eq!(demand(&with_deadline("30"), 2, pair[0], by), pair[1]);
         }
@@ -95,7 +107,7 @@ fn refusals() {
 /// With m 3 and O, F and L each 1 the quotient is 1. Each rounded by itself, they would give 3 up, or 0 down.
 fn thirds() {
     let table = table(cases::THIRDS);
-    let Verdict::Meets(bound) = verdict(&table, 3) else { panic!("task 4 misses") };
+    let Verdict::Meets(bound) = found(&table, 3).verdict else { panic!("task 4 misses") };
     let Terms { db, s, o, f, l } = terms(&table, 3, bound, workload);
     assert_eq!((table.m, db, s, o, f, l), (3, 6, 1, 1, 1, 1));
     assert_eq!(bound, table.tasks[3].c + db + s + 1);
@@ -188,9 +200,9 @@ fn answered(lines: &str, number: u32) {
 fn rounded() {
     let figures = |text: &str| table(text).used().iter().map(|task| (task.t, task.c, task.d)).collect::<Vec<_>>();
     assert_eq!(figures(cases::ROUNDED), [(11, 9, 9), (11, 2, 11)]);
-    assert_eq!(verdict(&table(cases::ROUNDED), 1), Verdict::Meets(11));
+    assert_eq!(found(&table(cases::ROUNDED), 1).verdict, Verdict::Meets(11));
     assert_eq!(figures(cases::AS_TYPED), [(11_000, 9_000, 9_198), (11_000, 2_000, 11_000)]);
-    assert_eq!(verdict(&table(cases::AS_TYPED), 1), Verdict::Misses);
+    assert_eq!(found(&table(cases::AS_TYPED), 1).verdict, Verdict::Misses);
 }
 
 /// The longest listing: every field at its longest, and every total at its most.
@@ -236,7 +248,7 @@ fn answers() {
 /// Request 3/12: the examples are the story that the search finds. Task 2 is made shorter; by the paper's workload task 3 then misses.
 fn shortened() {
     assert_eq!(story::find(), cases::STORY);
-    let verdicts = |by: By| cases::STORY.map(|text| [0, 1, 2].map(|i| verdict_by(&table(text), i, by)));
+    let verdicts = |by: By| cases::STORY.map(|text| [0, 1, 2].map(|i| found_by(&table(text), i, by).verdict));
     let [before, after] = [[1_000, 6_000, 4_000], [1_000, 5_000, 4_000]].map(|bounds| bounds.map(Verdict::Meets));
     assert_eq!(verdicts(By::Capped), [before, after]);
     assert_eq!(verdicts(By::Uncapped), [before, [after[0], after[1], Verdict::Misses]]);
@@ -261,4 +273,44 @@ fn salvaged() {
         assert_eq!(salvage::salvage(&back, entries, room), salvage::Salvaged { list: vec![], archive: Err((11, 0)) });
     }
     assert_eq!(salvage::salvage(&back, 4, 2_048).archive, Ok(a));
+}
+
+/// What is said of the task at `i` under each of these allowances.
+fn under<const N: usize>(table: &Table, i: usize, allowances: [u64; N]) -> [Found; N] {
+    allowances.map(|allowance| allowed(table, i, found(table, i), allowance))
+}
+
+/// Request 6/12: rounds and allowances.
+fn counted() {
+    let (bound, [one, two, four, five]) = (Found::meets(14_500, 6), [1, 2, 4, 5].map(Found::open));
+    assert_eq!(under(&with_deadline("30"), 2, [1, 2, 5, 6, 7, REPORT]), [one, two, five, bound, bound, bound]);
+    assert_eq!(under(&with_deadline("14.5"), 2, [4, 5, 6]), [four, five, bound]);
+    assert_eq!(under(&with_deadline("14.499"), 2, [4, 5, 6]), [four, Found::misses(5), Found::misses(5)]);
+    assert_eq!([0, 1].map(|i| under(&with_deadline("30"), i, [1])), [[one], [Found::meets(4_000, 1)]]);
+    // in one round a demand repeats, or passes D
+    assert_eq!([0, 1].map(|i| found(&table(cases::ONE_ROUND), i)), [Found::meets(1, 1), Found::misses(1)]);
+    // whatever t is, task 4's demand is 13
+    let thirds = |d: &str| found(&table(&cases::THIRDS.replace("10 0.005 1", &format!("10 0.005 {d}"))), 3);
+    assert_eq!(["1", "0.013", "0.012"].map(thirds), [Found::meets(13, 2), Found::meets(13, 2), Found::misses(1)]);
+    // no task takes more than D - C + 1, and these do take as many
+    for rounds in [2, 3, 5, 100] {
+        let [met, missed] = [cases::steps(rounds), cases::no_end(rounds)].map(|text| table(&text));
+        assert_eq!([&met, &missed].map(|table| table.tasks[1].d - table.tasks[1].c + 1), [rounds, rounds]);
+        assert_eq!([found(&met, 1), found(&missed, 1)], [Found::meets(rounds, rounds), Found::misses(rounds)]);
+    }
+    assert_eq!(cases::steps(3), "cpus 1\ntask 0.003 0.002 0.002\ntask 0.003 0.001 0.003\n");
+    easier_takes_more();
+}
+
+/// A harder table may take fewer rounds, and get a bound where the easier one is open. The smallest pair is the one that the search finds.
+fn easier_takes_more() {
+    let harder = table(&cases::one_processor());
+    assert!(rounds::is_harder(&table(cases::CASE_A), &harder));
+    assert_eq!([0, 1, 2].map(|i| found(&harder, i)), [Found::meets(3_250, 2), Found::meets(14_500, 7), Found::meets(22_000, 4)]);
+    assert_eq!([under(&with_deadline("30"), 2, [BENCH]), under(&harder, 2, [BENCH])], [[Found::open(5)], [Found::meets(22_000, 4)]]);
+    let [easier, harder] = cases::EASIER;
+    assert!(rounds::is_harder(&table(easier), &table(harder)));
+    assert_eq!(easier::find(), easier::Pair { easier: easier.into(), harder: harder.into(), task: 2, allowance: 2 });
+    assert_eq!([easier, harder].map(|text| found(&table(text), 1)), [Found::meets(4_000, 3), Found::meets(4_000, 2)]);
+    assert_eq!([easier, harder].map(|text| under(&table(text), 1, [2])), [[Found::open(2)], [Found::meets(4_000, 2)]]);
 }

@@ -1,17 +1,17 @@
-//! Tables handed over directly, by way of the program `probe`: the check, one task's bound, rows and outputs of every length. And listings and
-//! cards: which table each is read as. And times: what is written of each, into outputs of every length. And damaged cards: what is saved of
-//! each, with lists and outputs of many lengths.
+//! Tables handed over directly, by way of the program `probe`: the check, one task's bound, rows and outputs of every length, and allowances of
+//! about as many rounds as are taken. And listings and cards: which table each is read as. And times: what is written of each, into outputs of
+//! every length. And damaged cards: what is saved of each, with lists and outputs of many lengths.
 //! docs/PROBE.md describes its input.
 
 use std::collections::BTreeSet;
 
-use crate::analysis::{self, Verdict};
+use crate::analysis::{self, Found, Verdict};
 use crate::compare::{self, run, Tally};
 use crate::programs::refused;
 use crate::random::Random;
 use crate::salvage::{salvage, Salvaged};
 use crate::table::{Lock, Refusal, Table};
-use crate::{card, cards, edges, generate, listing, report, salvages};
+use crate::{card, cards, cases, edges, generate, listing, report, salvages};
 
 const TABLES: u64 = 600;
 const LONG_AMONG_SHORT: u64 = 100;
@@ -24,8 +24,10 @@ const DAMAGED: usize = ROOM - 8;
 /// The list and the output that are lent for a damaged card, or of which the front is lent.
 const LIST: usize = 70;
 const SAVED: usize = 34_000;
+/// Allowances that are enough for every task, or that one of fewer bytes would read as a small one.
+const LARGE: [u32; 4] = [1 << 16, 10_000_000, 1 << 31, u32::MAX];
 
-/// What a time, a listing or a card does not fill is not to be looked at.
+/// What a table, a time, a listing or a card does not fill is not to be looked at.
 fn request(entry: u32, argument: u32, bytes: &[u8]) -> Vec<u8> {
     let mut request = [entry, argument].map(u32::to_be_bytes).concat();
     request.extend(bytes);
@@ -44,10 +46,25 @@ fn words(table: &Table) -> Vec<u8> {
     words.iter().flat_map(|w| w.to_be_bytes()).collect()
 }
 
-fn verdict(v: Verdict) -> String {
-    match v {
-        Verdict::Meets(t) => format!("meets {t}\n"),
-        Verdict::Misses => "misses\n".into(),
+/// A table, and after it the allowance, if there is one.
+fn with_allowance(table: &Table, allowance: Option<u32>) -> Vec<u8> {
+    let mut bytes = words(table);
+    bytes.extend(allowance.iter().flat_map(|rounds| rounds.to_be_bytes()));
+    bytes
+}
+
+fn word(verdict: Verdict) -> &'static str {
+    match verdict {
+        Verdict::Meets(_) => "meets",
+        Verdict::Misses => "misses",
+        Verdict::Open => "open",
+    }
+}
+
+fn said(Found { verdict, rounds }: Found) -> String {
+    match verdict {
+        Verdict::Meets(t) => format!("meets {t} rounds {rounds}\n"),
+        other => format!("{} rounds {rounds}\n", word(other)),
     }
 }
 
@@ -55,29 +72,91 @@ fn checked(table: &Table) -> String {
     table.check().map_or_else(refused, |()| "fine\n".into())
 }
 
-fn bound(table: &Table, task: u32) -> String {
-    if let Err(r) = table.check() {
-        return refused(r);
-    }
-    if task == 0 || task as u64 > table.n {
-        return refused((10, 0));
-    }
-    verdict(analysis::verdict(table, task as usize - 1))
+/// A table that is handed over to the analysis; and its refusal, or what is said of each task if the rounds are not limited.
+struct Handed {
+    table: Table,
+    found: Result<Vec<Found>, Refusal>,
 }
 
-fn row(table: &Table, room: usize) -> String {
-    let mut lines: Vec<String> = (0..ROWS).map(|i| format!("{} meets {i}\n", 1000 + i)).collect();
-    let answer = match table.check() {
-        Err(r) => refused(r),
-        Ok(()) if (room as u64) < table.n => refused((11, 0)),
-        Ok(()) => {
-            for (i, line) in lines.iter_mut().enumerate().take(table.n as usize) {
-                *line = format!("{} {}", i + 1, verdict(analysis::verdict(table, i)));
-            }
-            "fine\n".into()
+impl Handed {
+    fn new(table: Table) -> Handed {
+        let found = table.check().map(|()| analysis::all(&table));
+        Handed { table, found }
+    }
+
+    /// What is said of the task with this number, if there is one.
+    fn task(&self, number: u32) -> Option<Found> {
+        let index = (number as usize).checked_sub(1)?;
+        self.found.as_ref().ok()?.get(index).copied()
+    }
+
+    fn bound(&self, task: u32, allowance: u32) -> String {
+        match (&self.found, self.task(task)) {
+            (Err(refusal), _) => refused(*refusal),
+            (_, None) => refused((10, 0)),
+            _ if allowance == 0 => refused((16, 0)),
+            (_, Some(found)) => said(analysis::allowed(&self.table, task as usize - 1, found, allowance as u64)),
         }
-    };
-    answer + &lines.concat()
+    }
+
+    fn row(&self, room: u32, allowance: u32) -> String {
+        let mut lines: Vec<String> = (0..ROWS).map(|i| format!("{} meets {i} rounds {}\n", 1000 + i, 2000 + i)).collect();
+        let answer = match &self.found {
+            Err(refusal) => refused(*refusal),
+            Ok(_) if allowance == 0 => refused((16, 0)),
+            Ok(found) if (room as usize) < found.len() => refused((11, 0)),
+            Ok(found) => {
+                for (i, (line, found)) in lines.iter_mut().zip(found).enumerate() {
+                    *line = format!("{} {}", i + 1, said(analysis::allowed(&self.table, i, *found, allowance as u64)));
+                }
+                "fine\n".into()
+            }
+        };
+        answer + &lines.concat()
+    }
+
+    /// How near the allowance is to what a task takes; or that it is 0 too where another refusal comes first.
+    fn near(&self, task: u32, allowance: u32) -> String {
+        match (self.task(task), allowance as u64) {
+            (None, 0) => ", and the allowance is 0".into(),
+            (Some(found), allowance) if allowance == found.rounds => ", just in time".into(),
+            (Some(found), allowance) if allowance > 0 && allowance + 1 == found.rounds => format!(", and {} a round later", word(found.verdict)),
+            _ => String::new(),
+        }
+    }
+
+    /// The same of a row: which other refusal there is, or how much of the row is open.
+    fn mixed(&self, room: u32, allowance: u32) -> &'static str {
+        let Ok(found) = &self.found else {
+            return if allowance == 0 { ", and the allowance is 0" } else { "" };
+        };
+        let short = (room as usize) < found.len();
+        let open = found.iter().filter(|found| found.rounds > allowance as u64).count();
+        match allowance {
+            0 if short => ", and the row is short",
+            0 => "",
+            _ if short || open == 0 => "",
+            _ if open == found.len() => ", all open",
+            _ => ", some open",
+        }
+    }
+}
+
+/// Request 6/12, by number: where the allowance stands, what is printed of case A under one, and which refusal comes first.
+pub fn hold() {
+    let handed = |text: &str| Handed::new(listing::read(text.as_bytes()).expect("an accepted listing"));
+    let (a, late) = (handed(cases::CASE_A), handed(&cases::CASE_A.replace("30 6 30", "30 6 14.499")));
+    assert_eq!(request(2, 3, &with_allowance(&a.table, Some(5)))[4 * 1637..4 * 1638], [0, 0, 0, 5]);
+    assert_eq!([1, 2, 3].map(|task| a.bound(task, 6)), ["meets 3250 rounds 2\n", "meets 4000 rounds 1\n", "meets 14500 rounds 6\n"]);
+    assert_eq!([&a, &late].map(|handed| handed.bound(3, 5)), ["open rounds 5\n", "misses rounds 5\n"]);
+    assert_eq!([(3, 0), (0, 0), (4, 0), (4, 5)].map(|(task, allowance)| a.bound(task, allowance)), [16, 10, 10, 10].map(|k| refused((k, 0))));
+    assert!(a.row(3, 5).starts_with("fine\n1 meets 3250 rounds 2\n2 meets 4000 rounds 1\n3 open rounds 5\n1003 meets 3 rounds 2003\n"));
+    for (room, allowance, k) in [(3, 0, 16), (2, 0, 16), (2, 5, 11)] {
+        assert!(a.row(room, allowance).starts_with(&(refused((k, 0)) + "1000 meets 0 rounds 2000\n")));
+    }
+    let none = Handed::new(Table::zero());
+    assert_eq!(none.bound(0, 0), refused((9, 0)));
+    assert!(none.row(0, 0).starts_with(&refused((9, 0))));
 }
 
 /// What is printed of a writer: its answer, or why it has none to give, and then the whole output, of which the first `room` bytes were lent.
@@ -131,44 +210,129 @@ fn space(r: &mut Random, table: &Table, write: fn(&Table) -> Vec<u8>) -> u32 {
     *r.pick(&[0, length - 1, length, length, length + 1, 20_000])
 }
 
-pub fn compare(program: &str) -> bool {
-    let mut tally = Tally::new();
+/// A call of an entry point with a table, and with an allowance if it takes one: what is to be printed, and what that is counted as.
+struct Call {
+    name: &'static str,
+    entry: u32,
+    argument: u32,
+    allowance: Option<u32>,
+    expected: Vec<u8>,
+    outcome: String,
+}
+
+impl Call {
+    fn new(name: &'static str, entry: u32, argument: u32, expected: Vec<u8>) -> Call {
+        let outcome = outcome(name, &expected);
+        Call { name, entry, argument, allowance: None, expected, outcome }
+    }
+
+    fn bound(handed: &Handed, task: u32, allowance: u32) -> Call {
+        let call = Call::new("bound", 2, task, handed.bound(task, allowance).into_bytes());
+        Call { allowance: Some(allowance), outcome: call.outcome + &handed.near(task, allowance), ..call }
+    }
+
+    fn analyse(handed: &Handed, room: u32, allowance: u32) -> Call {
+        let call = Call::new("analyse", 3, room, handed.row(room, allowance).into_bytes());
+        Call { allowance: Some(allowance), outcome: call.outcome + handed.mixed(room, allowance), ..call }
+    }
+
+    /// Whether the probe prints that.
+    fn alike(&self, program: &str, table: &Table) -> bool {
+        let Call { name, entry, argument, allowance, expected, .. } = self;
+        let found = run(program, &request(*entry, *argument, &with_allowance(table, *allowance)));
+        let same = found.is(expected);
+        if !same {
+            let allowed = allowance.map_or(String::new(), |rounds| format!(" and the allowance {rounds}"));
+            println!("{name} with {argument}{allowed} differs on {table:?}\nhere:\n{}\n{program}:\n{found}", String::from_utf8_lossy(expected));
+        }
+        same
+    }
+}
+
+/// Allowances to ask with: 0, one about as many rounds as some task takes, and one that is far off. Where there is no such task, any one.
+fn allowances(r: &mut Random, task: Option<Found>) -> Vec<u32> {
+    let large = *r.pick(&LARGE);
+    match task.map(|found| found.rounds as u32) {
+        None => vec![*r.pick(&[0, 0, 1, large])],
+        Some(rounds) => vec![0, *r.pick(&[rounds - 1, rounds, rounds + 1]), *r.pick(&[1, large, large])],
+    }
+}
+
+/// Every task, and rows that are one short and just long enough, with each allowance that is next to what some task takes, or at an end.
+fn every_allowance(listing: String) -> (Table, Vec<Call>) {
+    let handed = Handed::new(listing::read(listing.as_bytes()).expect("an accepted listing"));
+    let n = handed.table.n as u32;
+    let rounds = (1..=n).filter_map(|task| handed.task(task)).map(|found| found.rounds as u32);
+    let mut allowances: BTreeSet<u32> = rounds.flat_map(|rounds| [rounds - 1, rounds, rounds + 1]).collect();
+    allowances.extend([0, 1, u32::MAX]);
+    let mut calls = Vec::new();
+    for allowance in allowances {
+        calls.extend((0..=n + 1).map(|task| Call::bound(&handed, task, allowance)));
+        calls.extend([n - 1, n].map(|room| Call::analyse(&handed, room, allowance)));
+    }
+    (handed.table, calls)
+}
+
+/// Tables about every limit and made by chance, each handed to each entry point with a few arguments.
+fn some_of_each() -> impl Iterator<Item = (Table, Vec<Call>)> {
     let mut r = Random::new(2);
     let mut for_cards = Random::new(3);
     let mut tables = edges::tables();
     tables.extend((0..TABLES).map(|_| generate::raw_table(&mut r)));
     let mut for_the_cap = Random::new(6);
     tables.extend((0..LONG_AMONG_SHORT).map(|_| generate::long_among_short(&mut for_the_cap)));
-    for table in tables {
+    let mut for_rounds = Random::new(10);
+    let asked = move |table: Table| {
         let n = table.n.min(32) as u32;
         let task = *r.pick(&[0, 1, n / 2 + 1, n, n + 1, u32::MAX]);
         let room = *r.pick(&[0, 1, n.max(1) - 1, n, n, n + 1, 32, 40]);
         let for_text = space(&mut r, &table, text);
         let for_card = space(&mut for_cards, &table, card::write);
-        let asked = [
-            ("check", 1, 0, checked(&table).into_bytes()),
-            ("bound", 2, task, bound(&table, task).into_bytes()),
-            ("analyse", 3, room, row(&table, room as usize).into_bytes()),
-            ("write", 4, for_text, output(&table, for_text as usize, text)),
-            ("card write", 6, for_card, output(&table, for_card as usize, card::write)),
+        let mut calls = vec![
+            Call::new("check", 1, 0, checked(&table).into_bytes()),
+            Call::new("write", 4, for_text, output(&table, for_text as usize, text)),
+            Call::new("card write", 6, for_card, output(&table, for_card as usize, card::write)),
         ];
-        for (name, entry, argument, expected) in asked {
-            let found = run(program, &request(entry, argument, &words(&table)));
-            if !found.is(&expected) {
-                println!("{name} with {argument} differs on {table:?}\nhere:\n{}\n{program}:\n{found}", String::from_utf8_lossy(&expected));
+        let handed = Handed::new(table);
+        calls.extend(allowances(&mut for_rounds, handed.task(task)).into_iter().map(|allowance| Call::bound(&handed, task, allowance)));
+        let other = handed.task(for_rounds.within(1, n.max(1) as u64) as u32);
+        calls.extend(allowances(&mut for_rounds, other).into_iter().map(|allowance| Call::analyse(&handed, room, allowance)));
+        (handed.table, calls)
+    };
+    tables.into_iter().map(asked)
+}
+
+pub fn compare(program: &str) -> bool {
+    let mut tally = Tally::new();
+    // a few rounds, and more than two bytes can count
+    let by_rounds = cases::rounds().into_iter().chain([cases::no_end(70_000)]).map(every_allowance);
+    for (table, calls) in some_of_each().chain(by_rounds) {
+        for call in calls {
+            if !call.alike(program, &table) {
                 return false;
             }
-            tally.count(outcome(name, &expected));
+            tally.count(call.outcome);
         }
         tally.compared += 1;
     }
     tally.print(&format!("tables: {} compared, {} calls", tally.compared, tally.answers()));
-    // each entry point checks its table by itself
+    tally.covers(&wanted())
+}
+
+/// Each entry point checks its table by itself. Of an allowance of 0 every refusal that comes before it, and the one that comes after.
+fn wanted() -> Vec<String> {
     let refusals = |name: &'static str| [4, 5, 7, 8, 9].map(|k| format!("{name}: refused {k:>2}"));
-    let mut wanted: Vec<String> = ["check", "bound", "analyse", "write", "card write"].into_iter().flat_map(refusals).collect();
-    wanted.extend(["check: fine", "bound: meets", "bound: misses", "bound: refused 10", "analyse: fine", "analyse: refused 11"].map(String::from));
-    wanted.extend(["write: wrote", "write: refused 11", "card write: wrote", "card write: refused 11"].map(String::from));
-    tally.covers(&wanted)
+    let mut all: Vec<String> = ["check", "write", "card write"].into_iter().flat_map(refusals).collect();
+    for refused in ["bound", "analyse"].into_iter().flat_map(refusals).chain(["bound: refused 10".into()]) {
+        all.push(format!("{refused}, and the allowance is 0"));
+        all.push(refused);
+    }
+    all.extend(["check: fine", "write: wrote", "write: refused 11", "card write: wrote", "card write: refused 11"].map(String::from));
+    all.extend(["meets", "misses", "open", "refused 16", "meets, just in time", "misses, just in time"].map(|answer| format!("bound: {answer}")));
+    all.extend(["meets", "misses"].map(|verdict| format!("bound: open, and {verdict} a round later")));
+    all.extend(["refused 16, and the row is short", "refused 16", "refused 11"].map(|answer| format!("analyse: {answer}")));
+    all.extend(["", ", some open", ", all open"].map(|how| format!("analyse: fine{how}")));
+    all
 }
 
 /// Listings that are read, and the table that each gives written again. A report shows a few bounds; this shows every figure that was read, and of a
@@ -379,7 +543,7 @@ pub fn longest_text(report: &str, program: &str) -> bool {
     let longest = text(&table);
     assert_eq!(listing::read(&longest).as_ref(), Ok(&table), "the longest text is not read back here");
     let written = |room: usize| (run(program, &request(4, room as u32, &words(&table))), output(&table, room, text));
-    let read = (run(report, &longest), report::text(&longest).into_bytes());
+    let read = (run(report, &longest), report::text(&longest, report::REPORT).into_bytes());
     for (found, expected) in [written(longest.len()), written(longest.len() - 1), read] {
         if !found.is(&expected) {
             println!("the longest text differs\nhere:\n{}\nthere:\n{found}", String::from_utf8_lossy(&expected));

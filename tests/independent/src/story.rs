@@ -1,7 +1,7 @@
 //! The developer's story of request 3/12, found and not made up: one task's code gets shorter, and by the paper's workload another task that met
 //! its deadline misses it.
 
-use crate::analysis::{iterate, By, Verdict};
+use crate::analysis::{iterate, By, Verdict, UNLIMITED};
 use crate::listing;
 
 /// Two processors and three tasks without locks, the fewest that there is such a story of: with one processor, or no more tasks than
@@ -16,7 +16,7 @@ fn text(tasks: &Tasks) -> String {
 /// The verdict on a task (from 0) by the paper's workload, and by the new one.
 fn verdicts(text: &str, i: usize) -> [Verdict; 2] {
     let table = listing::read(text.as_bytes()).expect("an accepted listing");
-    [By::Uncapped, By::Capped].map(|by| iterate(&table, i, by).0)
+    [By::Uncapped, By::Capped].map(|by| iterate(&table, i, by, UNLIMITED).verdict)
 }
 
 /// By the paper's workload the task goes from meets to misses; by the new one it meets in both, and its bound does not grow.
