@@ -37,7 +37,7 @@ module _ (W : Load) (rising : NoMore W W) (t : Table) (i : ℕ) (e : tableFault 
   f = demandWith W (viewOf t) (level i)
 
   up : Rises f
-  up = demand-rises W rising (viewOf t) (fine-runs t e) i h
+  up = demand-rises W rising (viewOf t) (fine-runs t e) (level i)
 
   pub rounds-end : (n : ℕ) × Counts f (viewOf t .D (level i)) (viewOf t .C (level i)) n × (n ≤ viewOf t .D (level i) - viewOf t .C (level i) + 1)
   rounds-end =

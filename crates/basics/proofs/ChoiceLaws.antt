@@ -43,3 +43,8 @@ within-true low high x e =
 pub only-below : (b : Bool) (x : ℕ) → only b x ≤ x
 only-below true x = le-refl x
 only-below false x = omega arith
+
+-- by the same test, no larger where it is no larger
+pub only-le : (b c : Bool) (x y : ℕ) → c ≡ b → x ≤ y → only b x ≤ only c y
+only-le true c x y e h = rw e h
+only-le false c x y e h = omega arith

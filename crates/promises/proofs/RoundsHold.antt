@@ -2,7 +2,7 @@
 -- Assumes nothing.
 use Prim.Native.Nat.{ℕ, _+_, _-_, _≤_, _<_}
 use mathlib.Core.Path.{_≡_, refl, ap, _∙_}
-use mathlib.Core.List.{[]}
+use mathlib.Core.List.{List}
 use native.Mathlib.Nat.{le-trans}
 use native.Mathlib.Omega.{arith}
 use lib.Dec.{lit<, lit≤}
@@ -12,6 +12,8 @@ use Rattle.table.specs.declared.Checked.the-variants.{Fine}
 use Rattle.table.specs.Faults.{firstFault}
 use Rattle.table.specs.Rules.{timesInRange, timesInOrder, timesFault, isUnused, usedInRange, pairInRange, totalsFit, pairFault, pairsFault, taskFault, tasksFault, tableFault}
 use Rattle.table.proofs.Acceptance.{fine-accepted}
+use Rattle.table.specs.Answers.{accepted}
+use Rattle.listing.specs.Read.{readListing}
 use Rattle.theory.specs.declared.Verdict.{Verdict}
 use Rattle.theory.specs.declared.Verdict.the-variants.{Meets, Open}
 use Rattle.theory.specs.declared.Counted.{Counted}
@@ -19,7 +21,7 @@ use Rattle.theory.specs.Work.{uncapped, workload, jobs, ceilDiv}
 use Rattle.theory.specs.View.{level, ceiling}
 use Rattle.theory.specs.Demand.{sharedCT, otherCT, allCT, highCT, DB, S, O, F, L, demandWith}
 use Rattle.theory.specs.Rounds.{countedFrom}
-use Rattle.theory.specs.Tables.{countedIn}
+use Rattle.theory.specs.Tables.{viewOf, countedIn}
 use Rattle.theory.proofs.WorkLaws.{workload-rises}
 use Rattle.theory.proofs.RoundLaws.{counts-unique}
 use Rattle.theory.proofs.AllowanceLaws.{open-rounds, settled-rounds, going-open, open-count, rounds-most}
@@ -30,11 +32,14 @@ use Rattle.page.specs.Report.{reportAllowance, benchAllowance}
 use Rattle.page.proofs.Reports.{report-accepted}
 use Rattle.meaning.proofs.Meaning.{passes-check}
 use Rattle.promises.specs.Demand2.{deadlineIn, runIn, CountIn}
-use Rattle.promises.specs.Demand3.{MadeHarder, caseA}
-use Rattle.promises.specs.Rounds.{RightRounds, Overtakes, Rounds}
+use Rattle.promises.specs.NoEasier.{NoEasier, Related}
+use Rattle.promises.specs.NotEmpty.{on, caseA}
+use Rattle.promises.specs.Rounds.{RightRounds, PrintsRows, KeptInPrint, Overtakes, Rounds}
 use Rattle.promises.proofs.Demand2Holds.{demand2}
-use Rattle.promises.proofs.HarderByTest.{rules}
-use Rattle.promises.proofs.Demand3Holds.{demand3, made}
+use Rattle.promises.proofs.ThreeTasks.{some-allowed}
+use Rattle.promises.proofs.ComparedByTest.{at-most, equal, any, rules}
+use Rattle.promises.proofs.NotEmptyHolds.{related-by}
+use Rattle.promises.proofs.NoEasierHolds.{one}
 
 module _ (t : Table) (i : ℕ) (fine : tableFault t ≡ Fine) (h : i < t .n) where
   -- the count, and that it is at most D − C + 1
@@ -62,22 +67,42 @@ never-open t i r e o =
     let g = fine-accepted t (k .0) .task i (k .1) .times in
     omega (arith, c .2, open-count _ _ reportAllowance _ (c .0) (c .1) (ap (λ (r : Counted). r .verdict) (k .3) ∙ o))
 
--- what `report` answers of a task in the harder table is a bound, so is one in the first, and no larger, and it answers that
-harder : (a b : Table) → MadeHarder a b → (i : ℕ) → i < a .n → (u n : ℕ) → boundOf b (level i) reportAllowance ≡ Known (record { verdict = Meets u; rounds = n })
+-- what `report` answers of a task in the second is a bound, so there is one in the first, no larger, and it answers that
+kept : (a b : Table) → Related NoEasier a b → (i : ℕ) → i < a .n → (u n : ℕ) → boundOf b (level i) reportAllowance ≡ Known (record { verdict = Meets u; rounds = n })
     → (w : ℕ) × (m : ℕ) × (boundOf a (level i) reportAllowance ≡ Known (record { verdict = Meets w; rounds = m })) × (w ≤ u)
-harder a b made i h u n e =
+kept a b r i h u n e =
     let k = known b i reportAllowance e in
     let v = demand2 .verdicts b i reportAllowance (k .0) (k .1) (k .2) in
     let l = v .2 .meets (never-open b i (v .0) (v .1)) u .0 (cc (v .1)) in
-    let d = demand3 a b made i h u l in
-    let x = demand2 .verdicts a i reportAllowance (made .first) h (k .2) in
+    let d = one a b r i h u l in
+    let x = demand2 .verdicts a i reportAllowance (r .first) h (k .2) in
     (d .0, x .0 .rounds, x .1 ∙ ap (λ (w : Verdict). Known (record { verdict = w; rounds = x .0 .rounds })) (x .2 .meets (never-open a i (x .0) (x .1)) (d .0) .1 (d .1)), d .2)
 
-overtakes : Overtakes (caseA 2 1 20_000 750 []) (caseA 1 1 20_000 750 []) 2 benchAllowance 22_000 4
-unfolding benchAllowance caseA allTo rules sumTo maxTo firstTo firstFault timesInRange timesInOrder timesFault isUnused usedInRange pairInRange totalsFit pairFault pairsFault taskFault tasksFault tableFault uncapped workload jobs ceilDiv ceiling sharedCT otherCT allCT highCT DB S O F L demandWith countedFrom countedIn
+prints : (allowance : ℕ) (s : List ℕ) (t : Table) → 1 ≤ allowance → readListing s ≡ accepted t → (row : ℕ → Counted) × PrintsRows allowance s t row
+prints allowance s t h e =
+    (λ i. countedIn t allowance (level i), record { text = report-accepted allowance s t h e; answer = λ i l. bound-known t i allowance (passes-check s t e) l h })
+
+printed : (s s' : List ℕ) (a b : Table) → readListing s ≡ accepted a → readListing s' ≡ accepted b → NoEasier (viewOf a) (viewOf b) → KeptInPrint s s' a b
+unfolding prints
+printed s s' a b e f r =
+    let x = prints reportAllowance s a some-allowed e in
+    let y = prints reportAllowance s' b some-allowed f in
+    record {
+      row = x .0;
+      row' = y .0;
+      first = x .1;
+      second = y .1;
+      kept = λ i u h m.
+          let met = ap (λ (v : Verdict). Known (record { verdict = v; rounds = y .0 i .rounds })) m in
+          let k = kept a b (record { first = passes-check s a e; second = passes-check s' b f; related = r }) i h u _ (y .1 .answer i (omega (arith, r .n)) ∙ met) in
+          (k .0, ap (λ (c : Counted). c .verdict) (known a i reportAllowance (k .2) .3), k .3);
+    }
+
+overtakes : Overtakes (on 2 caseA) (on 1 caseA) 2 benchAllowance 22_000 4
+unfolding benchAllowance on allTo rules sumTo maxTo firstTo firstFault timesInRange timesInOrder timesFault isUnused usedInRange pairInRange totalsFit pairFault pairsFault taskFault tasksFault tableFault uncapped workload jobs ceilDiv ceiling sharedCT otherCT allCT highCT DB S O F L demandWith countedFrom countedIn
 overtakes =
     record {
-      harder = made refl refl refl;
+      harder = related-by at-most equal any refl refl refl;
       first = bound-known _ 2 5 refl (lit< tt) (lit≤ tt) ∙ ap Known refl;
       second = bound-known _ 2 5 refl (lit< tt) (lit≤ tt) ∙ ap Known refl;
     }
@@ -90,9 +115,9 @@ rounds-hold =
       stays = λ t i A B r h e q.
           let k = known t i A e in
           bound-known t i B (k .0) (k .1) (le-trans (k .2) h) ∙ ap Known (under-more t i A B h (k .3) q);
-      prints = λ allowance s t h e.
-          (λ i. countedIn t allowance (level i), report-accepted allowance s t h e, λ i l. bound-known t i allowance (passes-check s t e) l h);
+      prints = prints;
       never-open = never-open;
-      harder = harder;
+      kept = kept;
+      printed = printed;
       overtakes = overtakes;
     }

@@ -8,7 +8,6 @@ use native.Mathlib.Omega.{arith}
 use lib.Dec.{T, leb, leb→le}
 use Rattle.basics.specs.Over.{joinTo}
 use Rattle.basics.specs.Text.{bytes}
-use Rattle.table.specs.declared.Table.{Table}
 use Rattle.table.specs.declared.Checked.the-variants.{Fine}
 use Rattle.listing.specs.Read.{readListing}
 use Rattle.theory.specs.declared.Verdict.the-variants.{Meets, Misses}
@@ -18,10 +17,7 @@ use Rattle.theory.specs.Tables.{countedIn}
 use Rattle.analysis.proofs.ByRounds.{under-more}
 use Rattle.page.specs.Report.{reportAllowance, header, rowText, pageText, reportText}
 use Rattle.page.proofs.Reports.{report-accepted}
-
--- the table that a listing is read as
-abbrev pub tableIn : String → Table
-tableIn s = readListing (bytes s) .table
+use Rattle.promises.specs.Words.{tableIn}
 
 abbrev row : ℕ → Counted → List ℕ
 row number r = rowText number (r .verdict) (r .rounds)

@@ -18,7 +18,7 @@ use Rattle.line.specs.Line.{cpusLine, taskLine, useLine, lineSays}
 use Rattle.listing.specs.Read.{pastAfter, newTask, tableAfter, readEnd, readLines, readListing}
 use Rattle.theory.specs.declared.Verdict.the-variants.{Meets, Misses}
 use Rattle.theory.specs.Work.{uncapped, workload, jobs, ceilDiv}
-use Rattle.theory.specs.View.{ceiling}
+use Rattle.theory.specs.View.{level, ceiling}
 use Rattle.theory.specs.Demand.{sharedCT, otherCT, allCT, highCT, DB, S, O, F, L, demandWith}
 use Rattle.theory.specs.Bound.{Least}
 use Rattle.theory.specs.Rounds.{countedFrom}
@@ -27,13 +27,14 @@ use Rattle.theory.proofs.WorkLaws.{uncapped-rises, workload-window, workload-le
 use Rattle.theory.proofs.BoundLaws.{capped-keeps}
 use Rattle.analysis.proofs.ByRounds.{fine-runs, by-rounds}
 use Rattle.page.specs.Report.{reportAllowance, rowWith, rowText}
+use Rattle.promises.specs.Words.{tableIn}
 use Rattle.promises.specs.Demand2.{demandIn, deadlineIn}
 use Rattle.promises.specs.Window.{uncappedDemandIn, Window, before, shortened, relaxed, Story}
-use Rattle.promises.proofs.ThreeTasks.{tableIn, three, met, meets-in, some-allowed}
+use Rattle.promises.proofs.ThreeTasks.{three, met, meets-in, some-allowed}
 
 keeps : (t : Table) (i : ℕ) → tableFault t ≡ Fine → i < t .n → (u : ℕ) → Least (uncappedDemandIn t i) (deadlineIn t i) u
     → (w : ℕ) × Least (demandIn t i) (deadlineIn t i) w × (w ≤ u)
-keeps t i e h u l = capped-keeps (viewOf t) (fine-runs t e) i h u l
+keeps t i e h u l = capped-keeps (viewOf t) (fine-runs t e) (level i) u l
 
 pub window-holds : Window
 unfolding workload uncapped jobs

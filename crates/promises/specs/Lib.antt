@@ -1,7 +1,8 @@
 -- What Footplatter guarantees. Read these files, and the definitions that they cite, and nothing else.
 --   Demand1   every input gets an answer, the contract determines it; a refusal is given, with its number and place, exactly when the paper calls for it, and changes nothing
 --   Demand2   the bound is the right one, a table holds what its listing states, which is one thing only, and what is written reads back
---   Demand3   a table made harder never gives a smaller bound
+--   NoEasier  demand 3 and request 7/12, as one result: a table that is no easier never gives a smaller bound
+--   NotEmpty  pairs of tables that show it, computed
 --   Decimals  request 1/12: which fields are times of up to six decimals, and on which side of what was typed each figure lies
 --   Archives  request 2/12: writing and reading an archive undo each other, one archive for one table, and a changed byte is noticed
 --   Window    request 3/12: no workload is more than t in a window of t, none falls as x grows, and every bound is kept or smaller
@@ -12,7 +13,8 @@
 pub mod Words
 pub mod Demand1
 pub mod Demand2
-pub mod Demand3
+pub mod NoEasier
+pub mod NotEmpty
 pub mod Decimals
 pub mod Archives
 pub mod Window

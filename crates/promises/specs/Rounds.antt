@@ -12,11 +12,13 @@ use Rattle.theory.specs.declared.Verdict.the-variants.{Meets, Open}
 use Rattle.theory.specs.declared.Counted.{Counted}
 use Rattle.theory.specs.View.{level}
 use Rattle.theory.specs.Rounds.{lengthAfter, Ends}
+use Rattle.theory.specs.Tables.{viewOf}
 use Rattle.analysis.specs.declared.Answer.the-variants.{Known}
 use Rattle.analysis.specs.Answers.{boundOf}
 use Rattle.page.specs.Report.{reportAllowance, benchAllowance, rowText, pageText, reportText}
 use Rattle.promises.specs.Demand2.{demandIn, runIn, deadlineIn, CountIn}
-use Rattle.promises.specs.Demand3.{MadeHarder, caseA}
+use Rattle.promises.specs.NoEasier.{NoEasier, Harder, Related}
+use Rattle.promises.specs.NotEmpty.{on, caseA}
 
 -- the round at the length after k rounds is the last: the length "repeats or passes D"
 abbrev pub LastIn : Table → ℕ → ℕ → Type 0
@@ -32,9 +34,26 @@ pub record RightRounds (t : Table) (i allowance : ℕ) (r : Counted) : Type 0 wh
   -- never are there more than D − C + 1
   pub most : r .rounds ≤ deadlineIn t i - runIn t i + 1
 
+-- the page of n tasks, each with its verdict and its rounds
+abbrev pub rowsText : ℕ → (ℕ → Counted) → List ℕ
+rowsText n row = pageText n (λ i. rowText (suc i) (row i .verdict) (row i .rounds))
+
+-- of a listing, whose table is t, these rows are printed, and they are what `bound` answers
+pub record PrintsRows (allowance : ℕ) (s : List ℕ) (t : Table) (row : ℕ → Counted) : Type 0 where
+  pub text : reportText allowance s ≡ rowsText (t .n) row
+  pub answer : (i : ℕ) → i < t .n → boundOf t (level i) allowance ≡ Known (row i)
+
+-- what `report` prints of two listings, whose tables are a and b: where the second has a bound in the row of a task of the first, the first has one too, and no larger
+pub record KeptInPrint (s s' : List ℕ) (a b : Table) : Type 0 where
+  pub row : ℕ → Counted
+  pub row' : ℕ → Counted
+  pub first : PrintsRows reportAllowance s a row
+  pub second : PrintsRows reportAllowance s' b row'
+  pub kept : (i u : ℕ) → i < a .n → row' i .verdict ≡ Meets u → (w : ℕ) × (row i .verdict ≡ Meets w) × (w ≤ u)
+
 -- under this allowance, of a table and one made harder: the second meets after n rounds, and the first, which needs more, is open
 pub record Overtakes (a b : Table) (i allowance u n : ℕ) : Type 0 where
-  pub harder : MadeHarder a b
+  pub harder : Related Harder a b
   pub first : boundOf a (level i) allowance ≡ Known (record { verdict = Open; rounds = allowance })
   pub second : boundOf b (level i) allowance ≡ Known (record { verdict = Meets u; rounds = n })
 
@@ -49,12 +68,14 @@ pub record Rounds : Type 0 where
       → boundOf t (level i) B ≡ Known r
   -- "a fourth column `rounds`": of an accepted listing a row is printed for each task, with the verdict and the rounds that `bound` answers under the program's allowance
   pub prints : (allowance : ℕ) (s : List ℕ) (t : Table) → 1 ≤ allowance → readListing s ≡ accepted t
-      → (row : ℕ → Counted) × (reportText allowance s ≡ pageText (t .n) (λ i. rowText (suc i) (row i .verdict) (row i .rounds)))
-      × ((i : ℕ) → i < t .n → boundOf t (level i) allowance ≡ Known (row i))
+      → (row : ℕ → Counted) × PrintsRows allowance s t row
   -- under the allowance of `report` none is open,
   pub never-open : (t : Table) (i : ℕ) (r : Counted) → boundOf t (level i) reportAllowance ≡ Known r → r .verdict ≡ Open → ⊥
-  -- so that demand 3 holds of what `bound` answers under it, which by `prints` is what `report` prints;
-  pub harder : (a b : Table) → MadeHarder a b → (i : ℕ) → i < a .n → (u n : ℕ) → boundOf b (level i) reportAllowance ≡ Known (record { verdict = Meets u; rounds = n })
+  -- so that the one result of `NoEasier` holds of what `bound` answers under it,
+  pub kept : (a b : Table) → Related NoEasier a b → (i : ℕ) → i < a .n → (u n : ℕ)
+      → boundOf b (level i) reportAllowance ≡ Known (record { verdict = Meets u; rounds = n })
       → (w : ℕ) × (m : ℕ) × (boundOf a (level i) reportAllowance ≡ Known (record { verdict = Meets w; rounds = m })) × (w ≤ u)
+  -- and of what `report` prints;
+  pub printed : (s s' : List ℕ) (a b : Table) → readListing s ≡ accepted a → readListing s' ≡ accepted b → NoEasier (viewOf a) (viewOf b) → KeptInPrint s s' a b
   -- and under the allowance of `bench`, so of what that prints, it does not: task 3 of case A on two processors, where it takes six rounds, and on one
-  pub overtakes : Overtakes (caseA 2 1 20_000 750 []) (caseA 1 1 20_000 750 []) 2 benchAllowance 22_000 4
+  pub overtakes : Overtakes (on 2 caseA) (on 1 caseA) 2 benchAllowance 22_000 4

@@ -7,13 +7,13 @@ use Rattle.basics.specs.Text.{bytes}
 use Rattle.table.specs.declared.Table.{Table}
 use Rattle.table.specs.declared.Checked.the-variants.{Fine}
 use Rattle.table.specs.Rules.{tableFault}
-use Rattle.listing.specs.Read.{readListing}
 use Rattle.theory.specs.Work.{uncapped, workload}
 use Rattle.theory.specs.View.{level}
 use Rattle.theory.specs.Demand.{loadOf, demandWith}
 use Rattle.theory.specs.Bound.{Least, None}
 use Rattle.theory.specs.Tables.{viewOf}
 use Rattle.page.specs.Report.{reportAllowance, reportText}
+use Rattle.promises.specs.Words.{tableIn}
 use Rattle.promises.specs.Demand2.{demandIn, runIn, deadlineIn}
 
 -- the demand of a task by document 01's workload
@@ -55,10 +55,10 @@ relaxed = "cpus 2\ntask 3 1 3\ntask 6 5 6\ntask 5 1 5\n"
 
 -- the demand of the third task of a listing by document 01's workload, and its deadline
 abbrev pub thirdUncapped : String → ℕ → ℕ
-thirdUncapped s = uncappedDemandIn (readListing (bytes s) .table) 2
+thirdUncapped s = uncappedDemandIn (tableIn s) 2
 
 abbrev pub thirdDeadline : String → ℕ
-thirdDeadline s = deadlineIn (readListing (bytes s) .table) 2
+thirdDeadline s = deadlineIn (tableIn s) 2
 
 pub record Story : Type 0 where
   -- "A developer shortened a task and another task's verdict went from meets to misses"

@@ -1,5 +1,9 @@
 -- Words that the promises are made of.
+use Prim.Native.String.{String}
 use mathlib.Core.Path.{_≡_}
+use Rattle.basics.specs.Text.{bytes}
+use Rattle.table.specs.declared.Table.{Table}
+use Rattle.listing.specs.Read.{readListing}
 
 -- a contract (`learnt`, as in basics/specs/Determined) says that the answer to the arguments a is `answer a`
 abbrev pub Answers : {A R X : Type 0} → (A → R → X → Type 0) → (A → R) → Type 0
@@ -8,3 +12,7 @@ Answers {A} {R} {X} learnt answer = (a : A) (r : R) (x : X) → learnt a r x →
 -- and that, of what lies at exit behind the arguments that are lent to be changed, the part `held` is `after a`
 abbrev pub Leaves : {A R X H : Type 0} → (X → H) → (A → R → X → Type 0) → (A → H) → Type 0
 Leaves {A} {R} {X} {H} held learnt after = (a : A) (r : R) (x : X) → learnt a r x → held x ≡ after a
+
+-- the table that a listing is read as
+abbrev pub tableIn : String → Table
+tableIn s = readListing (bytes s) .table

@@ -6,8 +6,8 @@
 --   AllowanceLaws open-rounds, settled-rounds, going-open, open-above, open-count, rounds-most, stays
 --   EndLaws       counts-exists; Right, counted-right, meets-if, misses-if
 --   PassLaws      ceiling-above, split-all, largest-none, where-used
---   DemandLaws    Runs, NoMore, demand-start, demand-le, harder-refl, demand-rises
---   BoundLaws     harder-keeps, capped-keeps
+--   DemandLaws    Runs, NoMore, demand-start, TermsGrow, demand-le, terms-itself, demand-rises
+--   BoundLaws     terms-keep, capped-keeps
 pub mod CasesHold
 pub mod WorkLaws
 pub mod LeastLaws

@@ -6,7 +6,6 @@
 --   Rounds    request 6/12: the rounds that lead to the verdict, counted, with an allowance and without
 --   Tables    a table as the analysis reads it; the verdict on a task of it, and its rounds
 --   Cases     the paper's point on the quotient, a demand that tells the terms from the slips, and its rounds under an allowance
---   Harder    what demand 3 calls a table made harder
 pub mod Work
 pub mod View
 pub mod Demand
@@ -14,4 +13,3 @@ pub mod Bound
 pub mod Rounds
 pub mod Tables
 pub mod Cases
-pub mod Harder

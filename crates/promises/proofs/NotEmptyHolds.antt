@@ -1,0 +1,91 @@
+-- The one result is not said of nothing.
+-- Assumes nothing.
+use Prim.Native.Nat.{ℕ, _<_}
+use mathlib.Core.Path.{_≡_, refl}
+use mathlib.Core.Bool.{true}
+use lib.Dec.{T, ltb, lit<}
+use Rattle.basics.specs.Over.{sumTo, maxTo, allTo, firstTo}
+use Rattle.table.specs.declared.Table.{Table}
+use Rattle.table.specs.declared.Checked.the-variants.{Fine}
+use Rattle.table.specs.Empty.{emptyTask, emptyTable}
+use Rattle.table.specs.Faults.{firstFault}
+use Rattle.table.specs.Rules.{timesInRange, timesInOrder, timesFault, isUnused, usedInRange, pairInRange, totalsFit, pairFault, pairsFault, taskFault, tasksFault, tableFault}
+use Rattle.field.specs.Number.{rounded, fraction, timeField, countField}
+use Rattle.put.specs.Text.{width, countText}
+use Rattle.line.specs.Fields.{fieldCount}
+use Rattle.line.specs.Line.{cpusLine, taskLine, useLine, lineSays}
+use Rattle.listing.specs.Read.{pastAfter, newTask, tableAfter, readEnd, readLines, readListing}
+use Rattle.theory.specs.declared.Verdict.{Verdict}
+use Rattle.theory.specs.declared.Verdict.the-variants.{Meets, Misses}
+use Rattle.theory.specs.declared.Counted.{Counted}
+use Rattle.theory.specs.Work.{uncapped, workload, jobs, ceilDiv}
+use Rattle.theory.specs.View.{ceiling}
+use Rattle.theory.specs.Demand.{sharedCT, otherCT, allCT, highCT, DB, S, O, F, L, demandWith}
+use Rattle.theory.specs.Rounds.{countedFrom}
+use Rattle.theory.specs.Tables.{viewOf}
+use Rattle.theory.proofs.WorkLaws.{workload-rises}
+use Rattle.theory.proofs.EndLaws.{Right}
+use Rattle.analysis.proofs.ByRounds.{by-rounds}
+use Rattle.promises.specs.Words.{tableIn}
+use Rattle.promises.specs.Demand2.{demandIn, runIn, deadlineIn}
+use Rattle.promises.specs.NoEasier.{Compared, LongerButFree, Related}
+use Rattle.promises.specs.NotEmpty.{on, Moves, Lost, holding, holdingLonger, HarderShown, LongerShown, BothShown, NotEmpty}
+use Rattle.promises.proofs.ComparedByTest.{Tested, at-most, equal, any, rules, isCompared, compared-by}
+
+-- the rounds of the task in slot i, so many of them allowed
+abbrev countedAt : Table → ℕ → ℕ → Counted
+countedAt t i k = countedFrom (demandIn t i) (deadlineIn t i) k (runIn t i)
+
+-- a verdict after k rounds
+after : (t : Table) (i k : ℕ) {v : Verdict} → tableFault t ≡ Fine → T (ltb i (t .n)) → countedAt t i k ≡ record { verdict = v; rounds = k } → Right (demandIn t i) (deadlineIn t i) v
+after t i k e h c = by-rounds workload workload-rises t i e (lit< h) k c
+
+module _ {rest run free : ℕ → ℕ → Type 0} (p : Tested rest) (q : Tested run) (r : Tested free) {a b : Table} where
+  pub related-by : tableFault a ≡ Fine → tableFault b ≡ Fine → isCompared p q r (viewOf a) (viewOf b) ≡ true → Related (Compared rest run free) a b
+  related-by e f h = record { first = e; second = f; related = compared-by p q r _ _ h }
+
+  -- a bound after j rounds goes to one after k, or to a miss
+  moves : {i u w : ℕ} (j k : ℕ) → tableFault a ≡ Fine → tableFault b ≡ Fine → isCompared p q r (viewOf a) (viewOf b) ≡ true → T (ltb i (a .n)) → T (ltb i (b .n))
+      → countedAt a i j ≡ record { verdict = Meets u; rounds = j } → countedAt b i k ≡ record { verdict = Meets w; rounds = k } → Moves (Compared rest run free) a b i u w
+  moves {i} j k e f h l m c d = record { related = related-by e f h; before = after a i j e l c; after = after b i k f m d }
+
+  lost : {i u : ℕ} (j k : ℕ) → tableFault a ≡ Fine → tableFault b ≡ Fine → isCompared p q r (viewOf a) (viewOf b) ≡ true → T (ltb i (a .n)) → T (ltb i (b .n))
+      → countedAt a i j ≡ record { verdict = Meets u; rounds = j } → countedAt b i k ≡ record { verdict = Misses; rounds = k } → Lost (Compared rest run free) a b i u
+  lost {i} j k e f h l m c d = record { related = related-by e f h; before = after a i j e l c; after = after b i k f m d }
+
+pub two-tasks : 1 < tableIn holding .n
+unfolding sumTo emptyTask emptyTable firstFault timesInRange timesInOrder timesFault isUnused usedInRange pairInRange totalsFit pairFault rounded fraction timeField countField width countText fieldCount cpusLine taskLine useLine lineSays pastAfter newTask tableAfter readEnd readLines readListing
+two-tasks = lit< tt
+
+pub falls : Moves LongerButFree (tableIn holding) (tableIn holdingLonger) 1 5_000 3_000
+unfolding allTo rules sumTo maxTo firstTo emptyTask emptyTable firstFault timesInRange timesInOrder timesFault isUnused usedInRange pairInRange totalsFit pairFault pairsFault taskFault tasksFault tableFault rounded fraction timeField countField width countText fieldCount cpusLine taskLine useLine lineSays pastAfter newTask tableAfter readEnd readLines readListing uncapped workload jobs ceilDiv ceiling sharedCT otherCT allCT highCT DB S O F L demandWith countedFrom
+falls = moves equal at-most any 3 3 refl refl refl tt tt refl refl
+
+pub not-empty : NotEmpty
+unfolding on allTo rules sumTo maxTo firstTo firstFault timesInRange timesInOrder timesFault isUnused usedInRange pairInRange totalsFit pairFault pairsFault taskFault tasksFault tableFault uncapped workload jobs ceilDiv ceiling sharedCT otherCT allCT highCT DB S O F L demandWith countedFrom
+not-empty =
+    record {
+      harder =
+          record {
+            longer-request = moves at-most equal any 2 2 refl refl refl tt tt refl refl;
+            oftener = lost at-most equal any 2 1 refl refl refl tt tt refl refl;
+            fewer = moves at-most equal any 1 7 refl refl refl tt tt refl refl;
+            fewer-third = moves at-most equal any 6 4 refl refl refl tt tt refl refl;
+            shorter = moves at-most equal any 4 5 refl refl refl tt tt refl refl;
+            added = moves at-most equal any 6 4 refl refl refl tt tt refl refl;
+          };
+      longer =
+          record {
+            longer = moves equal at-most at-most 6 7 refl refl refl tt tt refl refl;
+            held = moves equal at-most at-most 6 4 refl refl refl tt tt refl refl;
+            missed = lost equal at-most at-most 7 3 refl refl refl tt tt refl refl;
+          };
+      at-once =
+          record {
+            both = moves at-most at-most at-most 4 5 refl refl refl tt tt refl refl;
+            once-longer = moves at-most at-most at-most 6 4 refl refl refl tt tt refl refl;
+            request-alone = refl;
+            total-alone = refl;
+          };
+      falls = falls;
+    }
