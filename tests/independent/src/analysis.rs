@@ -120,7 +120,7 @@ pub fn terms(table: &Table, i: usize, t: u64, workload: impl Fn(&Task, u64, u64)
         db: (0..LOCKS).filter(|&k| uses(me, k)).map(|k| me.locks[k].n * longest_below(k)).sum(),
         s: above.iter().map(|l| workload(l, t, total(l, |k| uses(me, k)))).sum(),
         o: above.iter().map(|l| workload(l, t, total(l, |k| !uses(me, k)))).sum(),
-        f: above.iter().map(|l| workload(l, t, l.c - total(l, |_| true))).sum(),
+        f: above.iter().map(|l| workload(l, t, l.outside_locks())).sum(),
         l: below.iter().map(|l| workload(l, t, total(l, |k| ceiling[k].is_some_and(|j| j < i)))).sum(),
     }
 }

@@ -95,6 +95,15 @@ pub const STORY: [&str; 2] = [include_str!("../../../examples/before-shortening.
 /// The pair of request 6/12, which `easier` finds: task 1's period gets shorter, and task 2 takes two rounds in place of three.
 pub const EASIER: [&str; 2] = ["cpus 1\ntask 4 1 3\ntask 4 2 4\n", "cpus 1\ntask 3 1 3\ntask 4 2 4\n"];
 
+/// The pair of request 7/12, which `falls` finds: task 1 holds its lock for longer and runs no longer, and task 2's bound falls.
+pub const FALLS: [&str; 2] = [include_str!("../../../examples/holding.txt"), include_str!("../../../examples/holding-longer.txt")];
+
+/// The same in microseconds, by rounding alone: as typed, task 1's C and CT get longer by as much; as read, CT alone does.
+pub const FALLS_AS_READ: [&str; 2] = [
+    "cpus 1\ntask 0.003 0.0015 0.002\nuse 1 2 0.001 0.001\ntask 0.005 0.001 0.005\n",
+    "cpus 1\ntask 0.003 0.0016 0.002\nuse 1 2 0.001 0.0011\ntask 0.005 0.001 0.005\n",
+];
+
 /// The first demand that is worked out ends it: that of task 1 repeats, and that of task 2 passes its D.
 pub const ONE_ROUND: &str = "cpus 1\ntask 0.001 0.001 0.001\ntask 0.001 0.001 0.001\n";
 
@@ -421,6 +430,7 @@ pub fn listings() -> Vec<Vec<u8>> {
     let capped = [LONG_ABOVE, LONGER_ABOVE, LONG_LOCK_ABOVE, LONG_LOCK_BELOW, TWO_ABOVE, O_AND_F, S_AND_F, LONG_SHARED_ABOVE, STORY[0], STORY[1]];
     all.extend(capped.map(|text| text.as_bytes().to_vec()));
     all.extend(rounds().into_iter().map(String::into_bytes));
+    all.extend(longer().into_iter().map(String::into_bytes));
     all.push(largest().into_bytes());
     all.push(longest().into_bytes());
     // a miss, and a bound, in the very last round that `report` allows
@@ -495,6 +505,39 @@ pub fn one_processor() -> String {
 pub fn rounds() -> Vec<String> {
     let mut all = vec![CASE_A.into(), one_processor(), EASIER[0].into(), EASIER[1].into(), ONE_ROUND.into()];
     all.extend((2..=8).flat_map(|rounds| [steps(rounds), no_end(rounds)]));
+    all
+}
+
+/// Case A, on however many processors, with a longer run time of task 2.
+pub fn longer_run(case_a: &str) -> String {
+    case_a.replace("20 4 15", "20 5 15")
+}
+
+/// The same with a shorter period too.
+pub fn longer_run_more_often(case_a: &str) -> String {
+    case_a.replace("20 4 15", "15 4.5 15")
+}
+
+/// Case A with other figures of task 1, and of its lock on line 3.
+fn other_lock(task: &str, lock: &str) -> String {
+    CASE_A.replace("10 2.5 10", task).replace("1 1 0.5 0.5", lock)
+}
+
+/// Case A with a longer run time of task 1, all of it under its lock: the one request that it makes gets longer, and with it the total.
+pub fn longer_request() -> String {
+    other_lock("10 3 10", "1 1 1 1")
+}
+
+/// The same by halves, which are refused: the longest request alone is above the total, and the total alone above the longest request.
+pub fn half_longer_request() -> [String; 2] {
+    [other_lock("10 2.5 10", "1 1 1 0.5"), other_lock("10 3 10", "1 1 0.5 1")]
+}
+
+/// Request 7/12: longer run times, by themselves and beside what makes a table harder; and the pair that has a bound fall.
+fn longer() -> Vec<String> {
+    let mut all = vec![longer_run(CASE_A), longer_run(&one_processor()), longer_run_more_often(&one_processor()), longer_request()];
+    all.extend(half_longer_request());
+    all.extend([FALLS, FALLS_AS_READ].concat().into_iter().map(String::from));
     all
 }
 

@@ -35,6 +35,12 @@ pub fn long_among_short(r: &mut Random) -> Table {
     table
 }
 
+/// Both kinds in turn, from a seed of their own.
+pub fn tables(seed: u64, how_many: u64) -> impl Iterator<Item = Table> {
+    let mut r = Random::new(seed);
+    (0..how_many).map(move |at| if at % 2 == 0 { table(&mut r) } else { long_among_short(&mut r) })
+}
+
 /// A task that may run for as long as its deadline. Half of them hold one lock for most of it, by many short requests, for which nobody waits
 /// long.
 fn long_task(r: &mut Random, locks: usize, longest: u64) -> Task {
@@ -77,7 +83,7 @@ pub fn harder(r: &mut Random, table: &Table) -> Table {
         if r.one_in(2) {
             task.t = r.within(task.d, task.t);
         }
-        for lock in task.locks.iter_mut().filter(|lock| lock.n > 0) {
+        for lock in in_use(task) {
             if r.one_in(3) {
                 lock.n = r.within(lock.n, (lock.n + 2).min(COUNT));
                 lock.c = r.within(lock.c, lock.ct);
@@ -89,8 +95,74 @@ pub fn harder(r: &mut Random, table: &Table) -> Table {
         harder.tasks[harder.n as usize] = task(r, LOCKS, longest, 20);
         harder.n += 1;
     }
-    assert_eq!(harder.check(), Ok(()), "what is made harder must be accepted");
     harder
+}
+
+/// The same table with longer run times, as request 7/12 has it: no C, no CT and no C less all CT smaller. Everything else is as it was, so that no
+/// total is above N times c.
+pub fn longer(r: &mut Random, table: &Table) -> Table {
+    let mut longer = table.clone();
+    for task in &mut longer.tasks[..table.n as usize] {
+        let room = run_longer(r, task);
+        hold_longer(r, task, room, |lock| lock.n * lock.c);
+    }
+    longer
+}
+
+/// Both at once. So a total may pass what N times c was, with more or longer requests, and a longest request may pass what the total was: neither
+/// change need be accepted alone.
+pub fn no_easier(r: &mut Random, table: &Table) -> Table {
+    let mut longer = table.clone();
+    for task in &mut longer.tasks[..table.n as usize] {
+        let room = run_longer(r, task);
+        hold_longer(r, task, room, |_| TIME);
+        in_use(task).for_each(|lock| request_enough(r, lock));
+    }
+    harder(r, &longer)
+}
+
+/// The same table with longer totals inside the same run times. They are longer run times but for one condition: C less all CT gets smaller.
+pub fn held_longer(r: &mut Random, table: &Table) -> Table {
+    let mut held = table.clone();
+    for task in &mut held.tasks[..table.n as usize] {
+        let room = task.outside_locks();
+        hold_longer(r, task, room, |lock| lock.n * lock.c);
+    }
+    held
+}
+
+/// A task runs longer, one time in two: mostly by a little, sometimes up to its deadline. Says by how much.
+fn run_longer(r: &mut Random, task: &mut Task) -> u64 {
+    let before = task.c;
+    task.c = match r.within(0, 9) {
+        0 => task.d,
+        1 => r.within(task.c, task.d),
+        2..=4 => r.within(task.c, (task.c + task.c.div_ceil(4)).min(task.d)),
+        _ => task.c,
+    };
+    task.c - before
+}
+
+/// A task's totals grow: all of them together by no more than there is room, and each to no more than is said of its pair.
+fn hold_longer(r: &mut Random, task: &mut Task, mut room: u64, most: impl Fn(&Lock) -> u64) {
+    for lock in in_use(task) {
+        let before = lock.ct;
+        let most = most(lock).min(lock.ct + room);
+        lock.ct = if r.one_in(4) { most } else { r.within(lock.ct, most) };
+        room -= lock.ct - before;
+    }
+}
+
+/// As many requests as a total takes that has grown, or as long ones. Where it is still N times c at most, they stay as they were.
+fn request_enough(r: &mut Random, lock: &mut Lock) {
+    if r.one_in(2) {
+        lock.n = lock.n.max(lock.ct.div_ceil(lock.c)).min(COUNT);
+    }
+    lock.c = lock.c.max(lock.ct.div_ceil(lock.n));
+}
+
+fn in_use(task: &mut Task) -> impl Iterator<Item = &mut Lock> {
+    task.locks.iter_mut().filter(|lock| lock.n > 0)
 }
 
 /// Some spelling of a time that is rounded to these microseconds. A traced one may be up to 999 ns off: above if it is rounded down, below if

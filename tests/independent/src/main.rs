@@ -11,6 +11,8 @@
 //!     independent story                     the smallest story of request 3/12: a listing, an empty line, and the listing with one task made shorter
 //!     independent easier                    the smallest pair of request 6/12: a listing, an empty line, a harder listing, an empty line, and the
 //!                                           task and the allowance with which the first is open and the second gives a bound
+//!     independent falls                     the smallest pair of request 7/12: a listing, an empty line, the listing with a lock held longer inside
+//!                                           the same run time, an empty line, and the task whose bound falls, with both bounds
 //!     independent compare REPORT BENCH PROBE ARCHIVE UNARCHIVE SALVAGE
 //!                                           run them on many listings, tables, times and cards and compare; exit 1 on a difference
 
@@ -22,9 +24,11 @@ mod cases;
 mod compare;
 mod easier;
 mod edges;
+mod falls;
 mod generate;
 mod listing;
 mod measure;
+mod no_easier;
 mod points;
 mod probe;
 mod programs;
@@ -67,6 +71,10 @@ fn main() -> ExitCode {
             print!("{}", easier::find().text());
             ExitCode::SUCCESS
         }
+        ["falls"] => {
+            print!("{}", falls::find().text());
+            ExitCode::SUCCESS
+        }
         ["compare", report, bench, probe, archive, unarchive, salvage] => {
             points::hold();
             let same = compare::reports(report, bench)
@@ -85,7 +93,7 @@ fn main() -> ExitCode {
         }
         _ => {
             eprintln!("usage: independent report | bench | archive | unarchive | salvage | times PROGRAM COMMAND INPUT | listings FOLDER |");
-            eprintln!("       story | easier | compare REPORT BENCH PROBE ARCHIVE UNARCHIVE SALVAGE");
+            eprintln!("       story | easier | falls | compare REPORT BENCH PROBE ARCHIVE UNARCHIVE SALVAGE");
             ExitCode::FAILURE
         }
     }

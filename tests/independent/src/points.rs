@@ -5,7 +5,7 @@ use crate::analysis::{allowed, demand, found, found_by, terms, uncapped, workloa
 use crate::listing::Round::{Down, Up};
 use crate::report::{BENCH, REPORT};
 use crate::table::{Lock, Refusal, Table, Task, TIME};
-use crate::{cap, card, cards, cases, easier, listing, probe, programs, report, rounds, salvage, salvages, story};
+use crate::{cap, card, cards, cases, easier, falls, listing, no_easier, probe, programs, report, rounds, salvage, salvages, story};
 
 /// Stops the comparison if a point fails.
 pub fn hold() {
@@ -26,6 +26,8 @@ pub fn hold() {
     salvaged();
     counted();
     rounds::hold();
+    no_easier::hold();
+    longer();
     probe::hold();
     println!("the points of the paper and of the requests hold in this program");
 }
@@ -305,12 +307,85 @@ fn counted() {
 /// A harder table may take fewer rounds, and get a bound where the easier one is open. The smallest pair is the one that the search finds.
 fn easier_takes_more() {
     let harder = table(&cases::one_processor());
-    assert!(rounds::is_harder(&table(cases::CASE_A), &harder));
+    assert!(no_easier::is_harder(&table(cases::CASE_A), &harder));
     assert_eq!([0, 1, 2].map(|i| found(&harder, i)), [Found::meets(3_250, 2), Found::meets(14_500, 7), Found::meets(22_000, 4)]);
     assert_eq!([under(&with_deadline("30"), 2, [BENCH]), under(&harder, 2, [BENCH])], [[Found::open(5)], [Found::meets(22_000, 4)]]);
     let [easier, harder] = cases::EASIER;
-    assert!(rounds::is_harder(&table(easier), &table(harder)));
+    assert!(no_easier::is_harder(&table(easier), &table(harder)));
     assert_eq!(easier::find(), easier::Pair { easier: easier.into(), harder: harder.into(), task: 2, allowance: 2 });
     assert_eq!([easier, harder].map(|text| found(&table(text), 1)), [Found::meets(4_000, 3), Found::meets(4_000, 2)]);
     assert_eq!([easier, harder].map(|text| under(&table(text), 1, [2])), [[Found::open(2)], [Found::meets(4_000, 2)]]);
+}
+
+/// The verdicts on each task.
+fn verdicts<const N: usize>(text: &str) -> [Verdict; N] {
+    std::array::from_fn(|i| found(&table(text), i).verdict)
+}
+
+/// Whether the second listing is harder than the first by demand 3, longer by request 7/12, and no easier, which each of these is.
+fn relations(first: &str, second: &str) -> [bool; 3] {
+    let [first, second] = [first, second].map(table);
+    [no_easier::is_harder, no_easier::is_longer, no_easier::is_no_easier].map(|is| is(&first, &second))
+}
+
+/// Request 7/12: longer run times by themselves, and beside demand 3's changes.
+fn longer() {
+    use Verdict::{Meets, Misses};
+    let [harder, longer, both] = [[true, false, true], [false, true, true], [false, false, true]];
+    let (two, one) = (cases::CASE_A, &cases::one_processor());
+    assert_eq!([two, one].map(verdicts), [[3_250, 4_000, 14_500], [3_250, 14_500, 22_000]].map(|bounds| bounds.map(Meets)));
+    assert_eq!([relations(two, one), relations(one, two)], [harder, [false; 3]]);
+    // task 2 runs longer
+    let [on_two, on_one] = [two, one].map(cases::longer_run);
+    assert_eq!(verdicts(&on_two), [3_250, 5_000, 15_500].map(Meets));
+    assert_eq!(verdicts(&on_one), [Meets(3_250), Misses, Meets(26_000)]);
+    assert_eq!([relations(two, &on_two), relations(one, &on_one), relations(two, &on_one)], [longer, longer, both]);
+    // and more often
+    let more_often = &cases::longer_run_more_often(one);
+    assert_eq!(verdicts(more_often), [3_250, 15_000, 29_500].map(Meets));
+    assert_eq!([relations(one, more_often), relations(more_often, one)], [both, [false; 3]]);
+    // two changes of which neither is accepted without the other
+    let request = &cases::longer_request();
+    assert_eq!(verdicts(request), [3_750, 4_000, 16_000].map(Meets));
+    assert_eq!([relations(two, request), relations(request, two)], [both, [false; 3]]);
+    cases::half_longer_request().iter().for_each(|half| refused(half, (7, 3)));
+    each_condition();
+    holding_longer();
+}
+
+/// Case A with one condition broken, of which each counts. The others are kept, but that C falls only where a CT or C less all CT does too.
+fn each_condition() {
+    let task_3 = "task 30 6 30\nuse 1 2 0.75 1.5\n";
+    let broken = [
+        ("processors", "cpus 2", "cpus 3"),
+        ("periods", "10 2.5 10", "10.001 2.5 10"),
+        ("deadlines", "20 4 15", "20 4 14.999"),
+        ("deadlines", "20 4 15", "20 4 15.001"),
+        ("C", "20 4 15", "20 3.999 15"),
+        ("counts", "1 2 0.75 1.5", "1 1 1.5 1.5"),
+        ("longest requests", "1 2 0.75 1.5", "1 3 0.749 1.5"),
+        ("CT", "1 2 0.75 1.5", "1 2 0.75 1.499"),
+        ("C less all CT", "1 1 0.5 0.5", "1 2 0.5 0.501"),
+        ("pairs in use", "20 4 15\n", "20 4.5 15\nuse 2 1 0.5 0.5\n"),
+        ("tasks", task_3, ""),
+    ];
+    for (what, figures, others) in broken {
+        assert!(cases::CASE_A.contains(figures), "{figures} is not in case A");
+        assert_eq!(relations(cases::CASE_A, &cases::CASE_A.replace(figures, others)), [false; 3], "{what}");
+    }
+    assert_eq!(relations(cases::CASE_A, cases::CASE_A), [true; 3]);
+}
+
+/// The condition on C less all CT, without which a bound may fall. The smallest pair is the one that the search finds.
+fn holding_longer() {
+    let [first, second] = cases::FALLS;
+    assert_eq!(falls::find(), falls::Pair { first: first.into(), second: second.into(), bounds: [5_000, 3_000] });
+    assert_eq!([first, second].map(verdicts), [[2_000, 5_000], [2_000, 3_000]].map(|bounds| bounds.map(Verdict::Meets)));
+    assert_eq!(relations(first, second), [false; 3]);
+    let [first, second] = [first, second].map(table);
+    assert!(no_easier::no_figure_is_easier(&first, &second) && !no_easier::no_less_outside_locks(&first, &second));
+    // as typed, C less all CT is the same; as read, it shrinks
+    let typed = cases::FALLS_AS_READ.map(|text| table(text).used().iter().map(|task| (task.c, task.outside_locks())).collect::<Vec<_>>());
+    assert_eq!(typed, [[(2, 1), (1, 1)], [(2, 0), (1, 1)]]);
+    assert_eq!(cases::FALLS_AS_READ.map(verdicts), [[2, 5], [2, 3]].map(|bounds| bounds.map(Verdict::Meets)));
 }

@@ -1,35 +1,25 @@
-//! Request 6/12, by number: the laws of the rounds and of an allowance of them; wrong programs, each with a listing that tells it apart; and harder
-//! tables, of which demand 3 speaks.
+//! Request 6/12, by number: the laws of the rounds and of an allowance of them, and wrong programs, each with a listing that tells it apart.
 
 use crate::analysis::{demand, iterate, quick, replaced, terms, workload, By, Found, Verdict, UNLIMITED};
-use crate::compare::Tally;
-use crate::random::Random;
 use crate::report::{self, BENCH, REPORT};
-use crate::table::{Lock, Table, Task};
+use crate::table::{Table, Task};
 use crate::{cases, generate, listing};
 
-/// How many tables are made for the laws, and how many for demand 3, each with a harder one.
+/// How many tables are made for the laws.
 const TABLES: u64 = 300;
-const PAIRS: u64 = 1_500;
 /// Of a task that takes no more rounds than this, they are counted from the definition too, and every allowance is tried.
 const FEW: u64 = 50;
 
-/// Stops the comparison if a law fails, a wrong program is not told apart, or a harder table has a smaller bound.
+/// Stops the comparison if a law fails, or a wrong program is not told apart.
 pub fn hold() {
     laws();
     wrong().iter().for_each(told_apart);
-    harder_tables();
-}
-
-fn tables(seed: u64, how_many: u64) -> impl Iterator<Item = Table> {
-    let mut r = Random::new(seed);
-    (0..how_many).map(move |at| if at % 2 == 0 { generate::table(&mut r) } else { generate::long_among_short(&mut r) })
 }
 
 /// The laws, for every task of many tables; and that among them there is one that takes several rounds and all that there can be.
 fn laws() {
     let mut all_there_can_be = 0;
-    for table in tables(11, TABLES) {
+    for table in generate::tables(11, TABLES) {
         for (i, task) in table.used().iter().enumerate() {
             let rounds = counted(&table, i);
             under_allowances(&table, i, rounds);
@@ -187,37 +177,4 @@ fn out_is_a_miss(table: &Table, allowance: u64) -> Vec<Found> {
 /// The length that it has come to.
 fn out_is_a_bound(table: &Table, allowance: u64) -> Vec<Found> {
     run_out(table, allowance, |i| Verdict::Meets((0..allowance).fold(table.tasks[i].c, |t, _| demand(table, i, t, By::Capped))))
-}
-
-/// Whether the second table is the first made harder, as demand 3 has it.
-pub fn is_harder(first: &Table, second: &Table) -> bool {
-    let lock = |(a, b): (&Lock, &Lock)| a.ct == b.ct && (a.n > 0) == (b.n > 0) && a.n <= b.n && a.c <= b.c;
-    let task = |(a, b): (&Task, &Task)| (a.c, a.d) == (b.c, b.d) && a.t >= b.t && a.locks.iter().zip(&b.locks).all(lock);
-    first.m >= second.m && first.n <= second.n && first.used().iter().zip(second.used()).all(task)
-}
-
-/// Demand 3, where the rounds are not limited: a task that has a bound in the harder table has one in the easier, no larger. The easier may take
-/// more rounds for it, so that under one allowance for both the demand would be false.
-fn harder_tables() {
-    let mut r = Random::new(12);
-    let mut tally = Tally::new();
-    for easier in tables(13, PAIRS) {
-        let harder = generate::harder(&mut r, &easier);
-        assert!(is_harder(&easier, &harder));
-        let pairs: Vec<(Found, Found)> = quick(&easier, UNLIMITED).into_iter().zip(quick(&harder, UNLIMITED)).collect();
-        if let Some(i) = pairs.iter().position(|(easy, hard)| easy.bound() > hard.bound()) {
-            panic!("task {} has a worse verdict in the first of\n{}\n{}", i + 1, listing::write(&easier), listing::write(&harder));
-        }
-        tally.compared += 1;
-        let mut count = |what: &str, is: fn(&Found, &Found) -> bool| {
-            if pairs.iter().any(|(easy, hard)| is(easy, hard)) {
-                tally.count(what.into());
-            }
-        };
-        count("a bound is larger", |easy, hard| easy.bound() < hard.bound() && hard.verdict != Verdict::Misses);
-        count("a bound became a miss", |easy, hard| easy.verdict != Verdict::Misses && hard.verdict == Verdict::Misses);
-        count("a bound takes fewer rounds", |easy, hard| easy.rounds > hard.rounds && hard.verdict != Verdict::Misses);
-    }
-    tally.print(&format!("tables made harder: {} compared", tally.compared));
-    assert!(tally.covers(&["a bound is larger", "a bound became a miss", "a bound takes fewer rounds"].map(String::from)));
 }

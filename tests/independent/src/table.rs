@@ -61,6 +61,11 @@ impl Table {
 }
 
 impl Task {
+    /// What a checked task runs outside of its locks: C less all CT.
+    pub fn outside_locks(&self) -> u64 {
+        self.c - self.locks.iter().map(|lock| lock.ct).sum::<u64>()
+    }
+
     fn check(&self) -> Result<(), u32> {
         for time in [self.t, self.c, self.d] {
             if !(1..=TIME).contains(&time) {
