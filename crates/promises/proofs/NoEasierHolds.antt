@@ -62,7 +62,7 @@ longer-is v w s =
       c = λ l k h r. le-of-eq (s .c l k h r);
       C = s .C;
       CT = s .CT;
-      free = s .free;
+      free = λ l h. omega (arith, s .free l h);
       D = s .D;
       pairs = s .pairs;
     }

@@ -80,7 +80,7 @@ module _ (v w : View) (s : NoEasier v w) (fits : Fits w) (i : ℕ) (hi : i < v .
         DB = DB-le;
         S = locks-le (uses v (level i)) (uses w (level i)) (λ k r. s .pairs i k hi r) t;
         O = locks-le (λ k. not (uses v (level i) k)) (λ k. not (uses w (level i) k)) (λ k r. ap not (s .pairs i k hi r)) t;
-        F = λ l h. load-le t l _ _ h (s .free l h) (omega arith);
+        F = λ l h. load-le t l _ _ h (omega (arith, s .free l h)) (omega arith);
         L = locks-le (λ k. isAbove (ceiling v k) (level i)) (λ k. isAbove (ceiling w k) (level i)) ceiling-eq t;
       }
 
