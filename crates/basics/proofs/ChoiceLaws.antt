@@ -3,7 +3,7 @@
 use Prim.Native.Nat.{ℕ, _≤_, _<_}
 use mathlib.Core.Path.{_≡_, refl, sym, _∙_}
 use mathlib.Core.Bool.{Bool, true, false, not, _&&_, and-false}
-use native.Mathlib.Nat.{le-refl}
+use native.Mathlib.Nat.{le-refl, not-suc-le-zero}
 use native.Mathlib.Omega.{arith}
 use borrow.Author.Tests.{leb-true, le-leb, lt-leb, not-true, not-false}
 use lib.Dec.{leb}
@@ -48,3 +48,13 @@ only-below false x = omega arith
 pub only-le : (b c : Bool) (x y : ℕ) → c ≡ b → x ≤ y → only b x ≤ only c y
 only-le true c x y e h = rw e h
 only-le false c x y e h = omega arith
+
+-- by the same test, the same where it is the same when the test holds
+pub only-when : (b : Bool) (x y : ℕ) → (b ≡ true → x ≡ y) → only b x ≡ only b y
+only-when true x y e = e refl
+only-when false x y e = refl
+
+-- something only where the test holds
+pub only-some : (b : Bool) (x : ℕ) → 1 ≤ only b x → (b ≡ true) × (1 ≤ x)
+only-some true x h = (refl, h)
+only-some false x h = absurd (not-suc-le-zero h)

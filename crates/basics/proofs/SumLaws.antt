@@ -80,3 +80,13 @@ sum-some (suc n) g h eq =
 -- nowhere larger, and over no more indices
 pub sum-wider : (m n : ℕ) (g h : ℕ → ℕ) → m ≤ n → ((k : ℕ) → k < m → g k ≤ h k) → sumTo m g ≤ sumTo n h
 sum-wider m n g h l le = le-trans (sum-le m g h le) (sum-rises m n h l)
+
+-- a sum that is something has a value that is
+pub sum-found : (n : ℕ) (g : ℕ → ℕ) → 1 ≤ sumTo n g → (k : ℕ) × (k < n) × (1 ≤ g k)
+unfolding sumTo
+sum-found zero g h = absurd (not-suc-le-zero h)
+sum-found (suc n) g h = go (ℕ-discrete (g n) 0) (λ s. sum-found n g s)
+  where
+    go : Dec (g n ≡ 0) → (1 ≤ sumTo n g → (k : ℕ) × (k < n) × (1 ≤ g k)) → (k : ℕ) × (k < suc n) × (1 ≤ g k)
+    go (yes e) ih = let f = ih (omega arith) in (f .0, omega (arith, f .1), f .2)
+    go (no d) ih = (n, le-refl (suc n), omega arith)
