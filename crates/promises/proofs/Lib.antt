@@ -1,6 +1,7 @@
---   Demand1Holds, Demand2Holds, NoEasierHolds, NotEmptyHolds, DecimalsHold, ArchivesHold, PointsHold, WindowHolds, SalvagesHold, RoundsHold   each promise, by citing the crate or the file that did the work
---   NoEasierLaws                                                                                                                              the one result, over what the analysis reads of two tables
---   ComparedByTest, ThreeTasks                                                                                                                two tables compared, by one test that computes; the report on three tasks
+--   Demand1Holds, Demand2Holds, NoEasierHolds, NotEmptyHolds, DecimalsHold, ArchivesHold, PointsHold, WindowHolds, SalvagesHold, RoundsHold, EachReadHolds, ReadsHold   each promise, by citing the crate or the file that did the work
+--   NoEasierLaws                                                                                                                                                        the one result, over what the analysis reads of two tables
+--   ReadsLaws, OnlyRunLaws                                                                                                                                              what a verdict reads: the demand is the same where two tables agree on it, and where one run time alone differs
+--   ComparedByTest, AgreeByTest, ThreeTasks                                                                                                                             two tables compared, and held to what a verdict reads, each by one test that computes; the report on three tasks
 pub mod Demand1Holds
 pub mod Demand2Holds
 pub mod ComparedByTest
@@ -14,3 +15,8 @@ pub mod PointsHold
 pub mod WindowHolds
 pub mod SalvagesHold
 pub mod RoundsHold
+pub mod ReadsLaws
+pub mod OnlyRunLaws
+pub mod AgreeByTest
+pub mod EachReadHolds
+pub mod ReadsHold

@@ -19,7 +19,7 @@ use Rattle.theory.specs.declared.Verdict.{Verdict}
 use Rattle.theory.specs.declared.Verdict.the-variants.{Meets, Misses}
 use Rattle.theory.specs.declared.Counted.{Counted}
 use Rattle.theory.specs.Work.{uncapped, workload, jobs, ceilDiv}
-use Rattle.theory.specs.View.{ceiling}
+use Rattle.theory.specs.View.{View, ceiling}
 use Rattle.theory.specs.Demand.{sharedCT, otherCT, allCT, highCT, DB, S, O, F, L, demandWith}
 use Rattle.theory.specs.Rounds.{countedFrom}
 use Rattle.theory.specs.Tables.{viewOf}
@@ -33,25 +33,32 @@ use Rattle.promises.specs.NotEmpty.{on, Moves, Lost, holding, holdingLon
 use Rattle.promises.proofs.ComparedByTest.{Tested, at-most, equal, any, rules, isCompared, compared-by}
 
 -- the rounds of the task in slot i, so many of them allowed
-abbrev countedAt : Table → ℕ → ℕ → Counted
+abbrev pub countedAt : Table → ℕ → ℕ → Counted
 countedAt t i k = countedFrom (demandIn t i) (deadlineIn t i) k (runIn t i)
 
 -- a verdict after k rounds
 after : (t : Table) (i k : ℕ) {v : Verdict} → tableFault t ≡ Fine → T (ltb i (t .n)) → countedAt t i k ≡ record { verdict = v; rounds = k } → Right (demandIn t i) (deadlineIn t i) v
 after t i k e h c = by-rounds workload workload-rises t i e (lit< h) k c
 
+-- a bound after j rounds goes to one after k, or to a miss, in tables that are related in whatever way
+module _ {R : View → View → Type 0} {a b : Table} {i : ℕ} (j k : ℕ) (r : Related R a b) (h : T (ltb i (a .n))) (h' : T (ltb i (b .n))) where
+  pub moves-by : {u w : ℕ} → countedAt a i j ≡ record { verdict = Meets u; rounds = j } → countedAt b i k ≡ record { verdict = Meets w; rounds = k } → Moves R a b i u w
+  moves-by c d = record { related = r; before = after a i j (r .first) h c; after = after b i k (r .second) h' d }
+
+  pub lost-by : {u : ℕ} → countedAt a i j ≡ record { verdict = Meets u; rounds = j } → countedAt b i k ≡ record { verdict = Misses; rounds = k } → Lost R a b i u
+  lost-by c d = record { related = r; before = after a i j (r .first) h c; after = after b i k (r .second) h' d }
+
 module _ {rest run free : ℕ → ℕ → Type 0} (p : Tested rest) (q : Tested run) (r : Tested free) {a b : Table} where
   pub related-by : tableFault a ≡ Fine → tableFault b ≡ Fine → isCompared p q r (viewOf a) (viewOf b) ≡ true → Related (Compared rest run free) a b
   related-by e f h = record { first = e; second = f; related = compared-by p q r _ _ h }
 
-  -- a bound after j rounds goes to one after k, or to a miss
   moves : {i u w : ℕ} (j k : ℕ) → tableFault a ≡ Fine → tableFault b ≡ Fine → isCompared p q r (viewOf a) (viewOf b) ≡ true → T (ltb i (a .n)) → T (ltb i (b .n))
       → countedAt a i j ≡ record { verdict = Meets u; rounds = j } → countedAt b i k ≡ record { verdict = Meets w; rounds = k } → Moves (Compared rest run free) a b i u w
-  moves {i} j k e f h l m c d = record { related = related-by e f h; before = after a i j e l c; after = after b i k f m d }
+  moves j k e f h l m c d = moves-by j k (related-by e f h) l m c d
 
   lost : {i u : ℕ} (j k : ℕ) → tableFault a ≡ Fine → tableFault b ≡ Fine → isCompared p q r (viewOf a) (viewOf b) ≡ true → T (ltb i (a .n)) → T (ltb i (b .n))
       → countedAt a i j ≡ record { verdict = Meets u; rounds = j } → countedAt b i k ≡ record { verdict = Misses; rounds = k } → Lost (Compared rest run free) a b i u
-  lost {i} j k e f h l m c d = record { related = related-by e f h; before = after a i j e l c; after = after b i k f m d }
+  lost j k e f h l m c d = lost-by j k (related-by e f h) l m c d
 
 pub two-tasks : 1 < tableIn holding .n
 unfolding sumTo emptyTask emptyTable firstFault timesInRange timesInOrder timesFault isUnused usedInRange pairInRange totalsFit pairFault rounded fraction timeField countField width countText fieldCount cpusLine taskLine useLine lineSays pastAfter newTask tableAfter readEnd readLines readListing

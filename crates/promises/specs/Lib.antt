@@ -8,6 +8,8 @@
 --   Window    request 3/12: no workload is more than t in a window of t, none falls as x grows, and every bound is kept or smaller
 --   Salvages  request 5/12: what is made of a card with bad blocks is an archive, nothing is invented, and a spoiled card gives its archive back
 --   Rounds    request 6/12: how many rounds a verdict takes, at most D − C + 1, and what an allowance of them makes of it
+--   Reads     which figures of a table a verdict reads, and of which tasks; a run time changes nothing for the tasks above it
+--   EachRead  tables that show it, computed
 --   Points    the paper's points marked P, two of them as request 3/12 has them, and the reports with request 6/12's rounds
 --   Words     what these are made of
 pub mod Words
@@ -20,4 +22,6 @@ pub mod Archives
 pub mod Window
 pub mod Salvages
 pub mod Rounds
+pub mod Reads
+pub mod EachRead
 pub mod Points

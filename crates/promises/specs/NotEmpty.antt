@@ -20,7 +20,7 @@ use Rattle.promises.specs.Demand2.{demandIn, deadlineIn}
 use Rattle.promises.specs.NoEasier.{NoEasier, Harder, Longer, LongerButFree, Related}
 
 -- a task of T, C and D that uses at most the first resource
-abbrev using1 : ℕ → ℕ → ℕ → Pair → Task
+abbrev pub using1 : ℕ → ℕ → ℕ → Pair → Task
 using1 T C D p = aTask T C D (p ∷ replicate (maxResources - 1) unusedPair)
 
 -- these tasks on m processors
@@ -28,13 +28,13 @@ unfoldable pub on : ℕ → List Task → Table
 on m tasks = record { cpus = m; n = length tasks; tasks = tasks ++ replicate (maxTasks - length tasks) emptyTask }
 
 -- the tasks of case A, which is on two processors
-abbrev one : Task
+abbrev pub one : Task
 one = using1 10_000 2_500 10_000 (aPair 1 500 500)
 
-abbrev two : Task
+abbrev pub two : Task
 two = using1 20_000 4_000 15_000 unusedPair
 
-abbrev three : Task
+abbrev pub three : Task
 three = using1 30_000 6_000 30_000 (aPair 2 750 1_500)
 
 abbrev pub caseA : List Task
@@ -69,7 +69,7 @@ pub record HarderShown : Type 0 where
 -- ---- request 7/12
 
 -- case A with two requests of task 1 for its lock, that C and that CT
-abbrev holding1 : ℕ → ℕ → List Task
+abbrev pub holding1 : ℕ → ℕ → List Task
 holding1 C CT = using1 10_000 C 10_000 (aPair 2 500 CT) ∷ two ∷ three ∷ []
 
 pub record LongerShown : Type 0 where

@@ -1,0 +1,74 @@
+-- What a verdict reads (`Reads`), computed on case A of the paper and on case A with some of its figures changed: that much may change and a bound stay, and that for each kind of figures that is read
+-- there are two tables which agree on all others and give a task another bound.
+use Prim.Native.Nat.{ℕ}
+use mathlib.Core.List.{List, [], _∷_}
+use Rattle.table.specs.declared.Task.{Task}
+use Rattle.table.specs.declared.Table.{Table}
+use Rattle.table.specs.Empty.{unusedPair}
+use Rattle.table.specs.At.{aPair}
+use Rattle.theory.specs.View.{level}
+use Rattle.promises.specs.NotEmpty.{using1, on, one, two, three, caseA, holding1, Moves, Lost}
+use Rattle.promises.specs.Reads.{Kind, processors, tasks, run, deadline, requests, periodAbove, deadlineAbove, shared, other, free, periodBelow, deadlineBelow, high, longest, SameRead, SameBut, SameWhereRead}
+
+-- what is read of the task at slot i is the same in both tables, and so is its bound
+abbrev pub Stays : Table → Table → ℕ → ℕ → Type 0
+Stays a b i u = Moves (λ v w. SameRead v w (level i)) a b i u u
+
+-- all kinds but one agree for the task at slot i, and its bound goes from u to w; or it has none in the second
+abbrev pub Tells : Kind → Table → Table → ℕ → ℕ → ℕ → Type 0
+Tells k a b i = Moves (λ v w. SameBut k v w (level i)) a b i
+
+abbrev pub TellsMiss : Kind → Table → Table → ℕ → ℕ → Type 0
+TellsMiss k a b i = Lost (λ v w. SameBut k v w (level i)) a b i
+
+-- case A with another first, second or third task
+abbrev pub first : Task → List Task
+first x = x ∷ two ∷ three ∷ []
+
+abbrev pub second : Task → List Task
+second x = one ∷ x ∷ three ∷ []
+
+abbrev pub third : Task → List Task
+third x = one ∷ two ∷ x ∷ []
+
+-- and with one more task
+abbrev pub fourth : Task → List Task
+fourth x = one ∷ two ∷ three ∷ x ∷ []
+
+-- a lot may change that is not read
+pub record Unread : Type 0 where
+  -- of task 1, the highest: all that the others have but the longest request for its lock
+  pub below : Stays (on 2 caseA) (on 2 (one ∷ using1 50_000 20_000 25_000 unusedPair ∷ using1 40_000 9_000 20_000 (aPair 5 750 3_000) ∷ [])) 0 3_250
+  -- of task 2, which has the short form and no lock: all that the others have
+  pub short : Stays (on 2 caseA) (on 2 (using1 3_000 2_900 3_000 (aPair 1 2_000 2_000) ∷ two ∷ using1 7_000 7_000 7_000 unusedPair ∷ [])) 1 4_000
+  -- of task 3, which has the long form: a task below it whose locks nobody above it uses
+  pub long : Stays (on 2 (fourth (using1 40_000 1_000 40_000 unusedPair))) (on 2 (fourth (using1 50_000 30_000 45_000 unusedPair))) 2 14_500
+  -- of a task itself: its T, and the c and CT of its locks
+  pub own : Stays (on 2 caseA) (on 2 (third (using1 60_000 6_000 30_000 (aPair 2 300 500)))) 2 14_500
+
+-- every kind is told by a pair
+pub record EachTold : Type 0 where
+  pub processors-told : Tells processors (on 2 caseA) (on 1 caseA) 2 14_500 22_000
+  pub tasks-told : Tells tasks (on 1 caseA) (on 1 (fourth (using1 40_000 3_000 40_000 (aPair 1 100 100)))) 1 14_500 14_700
+  pub run-told : Tells run (on 2 caseA) (on 2 (second (using1 20_000 5_000 15_000 unusedPair))) 1 4_000 5_000
+  pub deadline-told : TellsMiss deadline (on 2 caseA) (on 2 (third (using1 30_000 6_000 14_499 (aPair 2 750 1_500)))) 2 14_500
+  pub requests-told : Tells requests (on 2 caseA) (on 2 (first (using1 10_000 2_500 10_000 (aPair 2 500 500)))) 0 3_250 4_000
+  pub period-above-told : Tells periodAbove (on 1 caseA) (on 1 (second (using1 15_000 4_000 15_000 unusedPair))) 2 22_000 28_000
+  pub deadline-above-told : Tells deadlineAbove (on 2 caseA) (on 2 (first (using1 10_000 2_500 9_000 (aPair 1 500 500)))) 2 14_500 14_000
+  pub shared-told : Tells shared (on 2 (holding1 2_500 500)) (on 2 (holding1 3_000 1_000)) 2 14_500 16_000
+  pub other-told : Tells other (on 1 (holding1 2_500 500)) (on 1 (holding1 2_600 600)) 1 14_500 14_800
+  pub free-told : Tells free (on 2 caseA) (on 2 (second (using1 20_000 5_000 15_000 unusedPair))) 2 14_500 15_500
+  pub period-below-told : Tells periodBelow (on 1 (third (using1 30_000 6_000 10_000 (aPair 2 750 1_500)))) (on 1 (third (using1 15_000 6_000 10_000 (aPair 2 750 1_500)))) 1 10_500 14_500
+  pub deadline-below-told : Tells deadlineBelow (on 1 (third (using1 30_000 6_000 20_000 (aPair 2 750 1_500)))) (on 1 caseA) 1 10_500 14_500
+  pub high-told : Tells high (on 1 (third (using1 30_000 6_000 30_000 (aPair 2 750 1_000)))) (on 1 caseA) 1 11_500 14_500
+  pub longest-told : Tells longest (on 2 caseA) (on 2 (third (using1 30_000 6_000 30_000 (aPair 2 1_000 1_500)))) 0 3_250 3_500
+
+-- case A on one processor, where task 3 does not use the lock of task 1
+abbrev pub unlocked : Table
+unlocked = on 1 (third (using1 30_000 6_000 30_000 unusedPair))
+
+pub record EachRead : Type 0 where
+  pub unread : Unread
+  pub told : EachTold
+  -- task 3 begins to use it, and task 2 to read task 3
+  pub begins : Moves (λ v w. SameWhereRead v w (level 1)) unlocked (on 1 caseA) 1 9_000 14_500
