@@ -33,6 +33,7 @@ mod points;
 mod probe;
 mod programs;
 mod random;
+mod reads;
 mod report;
 mod rounds;
 mod salvage;

@@ -5,7 +5,7 @@ use crate::analysis::{allowed, demand, found, found_by, terms, uncapped, workloa
 use crate::listing::Round::{Down, Up};
 use crate::report::{BENCH, REPORT};
 use crate::table::{Lock, Refusal, Table, Task, TIME};
-use crate::{cap, card, cards, cases, easier, falls, listing, no_easier, probe, programs, report, rounds, salvage, salvages, story};
+use crate::{cap, card, cards, cases, easier, falls, listing, no_easier, probe, programs, reads, report, rounds, salvage, salvages, story};
 
 /// Stops the comparison if a point fails.
 pub fn hold() {
@@ -28,6 +28,7 @@ pub fn hold() {
     rounds::hold();
     no_easier::hold();
     longer();
+    reads::hold();
     probe::hold();
     println!("the points of the paper and of the requests hold in this program");
 }
