@@ -8,15 +8,15 @@ use mathlib.Core.Logic.{_⊎_, inl, inr}
 use borrow.Author.Tests.{eqb-true, eq-eqb, ne-eqb, lt-ltb}
 use lib.Dec.{eqb, ltb, lit<}
 use lib.ListN.{getD}
-use Rattle.basics.specs.Choice.{pick}
+use Rattle.basics.specs.Choice.{pick, only}
 use Rattle.basics.specs.Over.{allTo}
 use Rattle.basics.proofs.AllLaws.{all-at}
 use Rattle.table.specs.declared.Level.{Level}
 use Rattle.table.specs.declared.Resource.{Resource}
 use Rattle.table.specs.Limits.{maxResources}
-use Rattle.theory.specs.View.{View, level, resource, isAbove, largestBelow, uses}
+use Rattle.theory.specs.View.{View, level, resource, isAbove, overResources, largestBelow, uses, ceiling}
 use Rattle.theory.specs.Demand.{sharedCT, otherCT, allCT, highCT}
-use Rattle.promises.specs.Reads.{Above, LongForm, Reads, unitsRead, Kind, processors, tasks, run, deadline, requests, periodAbove, deadlineAbove, shared, other, free, periodBelow, deadlineBelow, high, longest, Agree, SameRead, SameBut, SameWhereRead}
+use Rattle.promises.specs.Reads.{Above, LongForm, Reads, unitsRead, Kind, processors, tasks, run, deadline, requests, periodAbove, deadlineAbove, shared, other, free, periodBelow, deadlineBelow, high, longest, Agree, SameRead, SameBut, SameWhereRead, SameByFirst}
 use Rattle.promises.proofs.ReadsLaws.{Fitting, above-is, read-units}
 
 -- the second is asked where the first holds
@@ -164,6 +164,13 @@ module _ (v w : View) (i : Level) where
       let m = numbered k in
       let apart : eqb (n .0) (m .0) ≡ false = ne-eqb (n .0) (m .0) (λ q. d (sym (n .2) ∙ ap kindAt q ∙ m .2)) in
       agree-by v w i fits j (rw (n .2) at (or-false _ _ (all-at 14 (n .0) _ e (n .1)) apart))
+
+  -- the CT on locks whose ceiling in v is above i
+  abbrev byFirst : Has
+  byFirst x l = overResources (λ k. only (isAbove (ceiling v k) i) (x .CT l k))
+
+  pub same-by-first : Fitting v → isSameBut (numbered high .0) ≡ true → long v w i (below v w i byFirst) ≡ true → SameByFirst v w i
+  same-by-first fits e f = (same-but-by fits high e, λ m. below-at v w i byFirst (long-is v w i _ f m))
 
 -- ---- i, and the tasks that it reads
 

@@ -18,8 +18,8 @@ use Rattle.theory.specs.Tables.{viewOf}
 use Rattle.promises.specs.NoEasier.{Related}
 use Rattle.promises.specs.NotEmpty.{on, caseA}
 use Rattle.promises.specs.Reads.{unitsRead, Kind, processors, tasks, run, deadline, requests, periodAbove, deadlineAbove, shared, other, free, periodBelow, deadlineBelow, high, longest, SameBut}
-use Rattle.promises.specs.EachRead.{Stays, Tells, TellsMiss, unlocked, EachRead}
-use Rattle.promises.proofs.AgreeByTest.{agrees, numbered, isSame, isSameBut, same-by, same-but-by, where-read-by}
+use Rattle.promises.specs.EachRead.{Stays, Tells, TellsMiss, unlocked, apart, together, EachRead}
+use Rattle.promises.proofs.AgreeByTest.{agrees, numbered, isSame, isSameBut, same-by, same-but-by, same-by-first, where-read-by}
 use Rattle.promises.proofs.NotEmptyHolds.{countedAt, moves-by, lost-by}
 use Rattle.promises.proofs.ReadsLaws.{fine-fitting}
 
@@ -72,5 +72,9 @@ each-read =
       begins =
           moves-by 2 7
           (record { first = refl; second = refl; related = where-read-by (viewOf unlocked) (viewOf (on 1 caseA)) (level 1) (fine-fitting unlocked refl) refl refl refl refl refl refl refl refl })
+          tt tt refl refl;
+      lifts =
+          moves-by 2 7
+          (record { first = refl; second = refl; related = same-by-first (viewOf apart) (viewOf together) (level 1) (fine-fitting apart refl) refl refl })
           tt tt refl refl;
     }

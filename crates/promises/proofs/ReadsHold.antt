@@ -27,7 +27,7 @@ use Rattle.promises.specs.Demand2.{demandIn, deadlineIn}
 use Rattle.promises.specs.NoEasier.{Related}
 use Rattle.promises.specs.NotEmpty.{on, Moves, Lost}
 use Rattle.promises.specs.Rounds.{PrintsRows}
-use Rattle.promises.specs.Reads.{Above, Reads, unitsRead, Kind, processors, tasks, run, deadline, requests, periodAbove, deadlineAbove, shared, other, free, periodBelow, deadlineBelow, high, longest, Agree, SameRead, SameBut, SameWhereRead, SameAnswers, OnlyRun, VerdictReads}
+use Rattle.promises.specs.Reads.{Above, Reads, unitsRead, Kind, processors, tasks, run, deadline, requests, periodAbove, deadlineAbove, shared, other, free, periodBelow, deadlineBelow, high, longest, Agree, SameRead, SameBut, SameWhereRead, SameByFirst, SameAnswers, OnlyRun, VerdictReads}
 use Rattle.promises.proofs.Demand2Holds.{demand2}
 use Rattle.promises.proofs.ThreeTasks.{some-allowed}
 use Rattle.promises.proofs.RoundsHold.{rounds-hold}
@@ -136,6 +136,10 @@ not-enough : SameAnswers SameWhereRead → ⊥
 unfolding on
 not-enough = moved SameWhereRead tt tt (each-read .begins) refl
 
+own-ceilings : SameAnswers SameByFirst → ⊥
+unfolding on
+own-ceilings = moved SameByFirst tt tt (each-read .lifts) refl
+
 pub verdict-reads : VerdictReads
 verdict-reads =
     record {
@@ -143,6 +147,7 @@ verdict-reads =
       printed = printed;
       needed = needed;
       not-enough = not-enough;
+      own-ceilings = own-ceilings;
       run-below = run-below;
       reads-units = reads-units;
       read-in-both = read-in-both;

@@ -1,14 +1,17 @@
 -- What a verdict reads (`Reads`), computed on case A of the paper and on case A with some of its figures changed: that much may change and a bound stay, and that for each kind of figures that is read
 -- there are two tables which agree on all others and give a task another bound.
-use Prim.Native.Nat.{ℕ}
+use Prim.Native.Nat.{ℕ, _-_}
 use mathlib.Core.List.{List, [], _∷_}
+use lib.ListN.{replicate}
+use Rattle.table.specs.declared.Pair.{Pair}
 use Rattle.table.specs.declared.Task.{Task}
 use Rattle.table.specs.declared.Table.{Table}
+use Rattle.table.specs.Limits.{maxResources}
 use Rattle.table.specs.Empty.{unusedPair}
-use Rattle.table.specs.At.{aPair}
+use Rattle.table.specs.At.{aPair, aTask}
 use Rattle.theory.specs.View.{level}
 use Rattle.promises.specs.NotEmpty.{using1, on, one, two, three, caseA, holding1, Moves, Lost}
-use Rattle.promises.specs.Reads.{Kind, processors, tasks, run, deadline, requests, periodAbove, deadlineAbove, shared, other, free, periodBelow, deadlineBelow, high, longest, SameRead, SameBut, SameWhereRead}
+use Rattle.promises.specs.Reads.{Kind, processors, tasks, run, deadline, requests, periodAbove, deadlineAbove, shared, other, free, periodBelow, deadlineBelow, high, longest, SameRead, SameBut, SameWhereRead, SameByFirst}
 
 -- what is read of the task at slot i is the same in both tables, and so is its bound
 abbrev pub Stays : Table → Table → ℕ → ℕ → Type 0
@@ -67,8 +70,21 @@ pub record EachTold : Type 0 where
 abbrev pub unlocked : Table
 unlocked = on 1 (third (using1 30_000 6_000 30_000 unusedPair))
 
+-- a task that uses the second resource alone
+abbrev pub using2 : ℕ → ℕ → ℕ → Pair → Task
+using2 T C D p = aTask T C D (unusedPair ∷ p ∷ replicate (maxResources - 2) unusedPair)
+
+-- case A on one processor, where task 3 uses lock 2; task 1 uses lock 1, or lock 2 too
+abbrev pub apart : Table
+apart = on 1 (third (using2 30_000 6_000 30_000 (aPair 2 750 1_500)))
+
+abbrev pub together : Table
+together = on 1 (using2 10_000 2_500 10_000 (aPair 1 500 500) ∷ two ∷ using2 30_000 6_000 30_000 (aPair 2 750 1_500) ∷ [])
+
 pub record EachRead : Type 0 where
   pub unread : Unread
   pub told : EachTold
   -- task 3 begins to use it, and task 2 to read task 3
   pub begins : Moves (λ v w. SameWhereRead v w (level 1)) unlocked (on 1 caseA) 1 9_000 14_500
+  -- task 1 takes lock 2 in place of lock 1, so that its ceiling rises, and task 2 begins to read task 3
+  pub lifts : Moves (λ v w. SameByFirst v w (level 1)) apart together 1 9_000 14_500

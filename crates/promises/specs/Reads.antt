@@ -14,7 +14,7 @@ use Rattle.table.specs.declared.Checked.the-variants.{Fine}
 use Rattle.table.specs.Limits.{maxResources}
 use Rattle.table.specs.Rules.{tableFault}
 use Rattle.theory.specs.declared.Counted.{Counted}
-use Rattle.theory.specs.View.{View, level, resource, isAbove, largestBelow, uses, ceiling}
+use Rattle.theory.specs.View.{View, level, resource, isAbove, overResources, largestBelow, uses, ceiling}
 use Rattle.theory.specs.Demand.{sharedCT, otherCT, allCT, highCT}
 use Rattle.theory.specs.Tables.{viewOf}
 use Rattle.analysis.specs.Answers.{boundOf}
@@ -121,6 +121,13 @@ OnlyRun j = Unchanged (λ l. Unit) (λ l. l ≡ j → ⊥)
 abbrev pub SameWhereRead : View → View → Level → Type 0
 SameWhereRead v w i = let named : Level → Type 0 = λ l. (l ≡ i) ⊎ Reads v i l in Unchanged named named v w
 
+-- all kinds but `high`, and in its place the CT on locks whose ceiling in v is above i, of both tables
+abbrev highBy : View → View → Level → Level → ℕ
+highBy v x i l = overResources (λ k. only (isAbove (ceiling v k) i) (x .CT l k))
+
+abbrev pub SameByFirst : View → View → Level → Type 0
+SameByFirst v w i = SameBut high v w i × (LongForm v i → eachTask v (λ l. Above i l → highBy v w i l ≡ highBy v v i l))
+
 pub record VerdictReads : Type 0 where
   pub same : SameAnswers SameRead
   -- and so a program prints the same row of it, the tables being those of two listings
@@ -130,6 +137,8 @@ pub record VerdictReads : Type 0 where
   pub needed : (k : Kind) → SameAnswers (SameBut k) → ⊥
   -- nor is it enough that the second is the first as far as the tasks go that are read in the first: another task may begin to be read
   pub not-enough : SameAnswers SameWhereRead → ⊥
+  -- nor can the ceilings of the first be taken for both
+  pub own-ceilings : SameAnswers SameByFirst → ⊥
   -- in particular "a longer C of a task, all else the same, changes nothing for the tasks above it"; nor does a shorter one
   pub run-below : (j : Level) → SameAnswers (λ v w i. Above i j × OnlyRun j v w)
   -- the tasks that i reads are those of which some units count in its demand
