@@ -3,7 +3,7 @@
 use Prim.Native.Nat.{ℕ}
 use mathlib.Core.Path.{_≡_, refl}
 use mathlib.Core.Bool.{true}
-use lib.Dec.{T, ltb}
+use lib.Dec.{T, ltb, lit<}
 use Rattle.basics.specs.Over.{sumTo, maxTo, allTo, firstTo}
 use Rattle.table.specs.declared.Table.{Table}
 use Rattle.table.specs.declared.Checked.the-variants.{Fine}
@@ -19,7 +19,7 @@ use Rattle.promises.specs.NoEasier.{Related}
 use Rattle.promises.specs.NotEmpty.{on, caseA}
 use Rattle.promises.specs.Reads.{unitsRead, Kind, processors, tasks, run, deadline, requests, periodAbove, deadlineAbove, shared, other, free, periodBelow, deadlineBelow, high, longest, SameBut}
 use Rattle.promises.specs.EachRead.{Stays, Tells, TellsMiss, unlocked, apart, together, EachRead}
-use Rattle.promises.proofs.AgreeByTest.{agrees, numbered, isSame, isSameBut, same-by, same-but-by, same-by-first, where-read-by}
+use Rattle.promises.proofs.AgreeByTest.{agrees, numbered, isSame, isSameBut, same-by, same-but-by, same-by-first, unchanged, only-run-by, where-read-by}
 use Rattle.promises.proofs.NotEmptyHolds.{countedAt, moves-by, lost-by}
 use Rattle.promises.proofs.ReadsLaws.{fine-fitting}
 
@@ -42,7 +42,7 @@ module _ {a b : Table} (i j k : ℕ) (e : tableFault a ≡ Fine) (f : tableFault
     tells-miss s l m c d = lost-by j k (but s) l m c d
 
 pub each-read : EachRead
-unfolding on allTo sumTo maxTo firstTo firstFault timesInRange timesInOrder timesFault isUnused usedInRange pairInRange totalsFit pairFault pairsFault taskFault tasksFault tableFault uncapped workload jobs ceilDiv ceiling sharedCT otherCT allCT highCT DB S O F L demandWith countedFrom unitsRead agrees numbered
+unfolding on allTo sumTo maxTo firstTo firstFault timesInRange timesInOrder timesFault isUnused usedInRange pairInRange totalsFit pairFault pairsFault taskFault tasksFault tableFault uncapped workload jobs ceilDiv ceiling sharedCT otherCT allCT highCT DB S O F L demandWith countedFrom unitsRead agrees numbered unchanged
 each-read =
     record {
       unread =
@@ -69,10 +69,9 @@ each-read =
             high-told = tells 1 3 7 refl refl high refl tt tt refl refl;
             longest-told = tells 0 2 2 refl refl longest refl tt tt refl refl;
           };
+      run-below = moves-by 2 2 (record { first = refl; second = refl; related = (lit< tt, only-run-by _ _ (level 1) refl) }) tt tt refl refl;
       begins =
-          moves-by 2 7
-          (record { first = refl; second = refl; related = where-read-by (viewOf unlocked) (viewOf (on 1 caseA)) (level 1) (fine-fitting unlocked refl) refl refl refl refl refl refl refl refl })
-          tt tt refl refl;
+          moves-by 2 7 (record { first = refl; second = refl; related = where-read-by (viewOf unlocked) (viewOf (on 1 caseA)) (fine-fitting unlocked refl) (level 1) refl }) tt tt refl refl;
       lifts =
           moves-by 2 7
           (record { first = refl; second = refl; related = same-by-first (viewOf apart) (viewOf together) (level 1) (fine-fitting apart refl) refl refl })

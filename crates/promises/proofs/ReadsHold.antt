@@ -145,10 +145,10 @@ verdict-reads =
     record {
       same = same;
       printed = printed;
+      run-below = run-below;
       needed = needed;
       not-enough = not-enough;
       own-ceilings = own-ceilings;
-      run-below = run-below;
       reads-units = reads-units;
       read-in-both = read-in-both;
     }

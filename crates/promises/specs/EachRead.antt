@@ -11,7 +11,7 @@ use Rattle.table.specs.Empty.{unusedPair}
 use Rattle.table.specs.At.{aPair, aTask}
 use Rattle.theory.specs.View.{level}
 use Rattle.promises.specs.NotEmpty.{using1, on, one, two, three, caseA, holding1, Moves, Lost}
-use Rattle.promises.specs.Reads.{Kind, processors, tasks, run, deadline, requests, periodAbove, deadlineAbove, shared, other, free, periodBelow, deadlineBelow, high, longest, SameRead, SameBut, SameWhereRead, SameByFirst}
+use Rattle.promises.specs.Reads.{Above, Kind, processors, tasks, run, deadline, requests, periodAbove, deadlineAbove, shared, other, free, periodBelow, deadlineBelow, high, longest, SameRead, SameBut, OnlyRun, SameWhereRead, SameByFirst}
 
 -- what is read of the task at slot i is the same in both tables, and so is its bound
 abbrev pub Stays : Table → Table → ℕ → ℕ → Type 0
@@ -84,6 +84,8 @@ together = on 1 (using2 10_000 2_500 10_000 (aPair 1 500 500) ∷ two ∷ using2
 pub record EachRead : Type 0 where
   pub unread : Unread
   pub told : EachTold
+  -- task 2 runs longer, all else the same, and task 1 has its bound
+  pub run-below : Moves (λ v w. Above (level 0) (level 1) × OnlyRun (level 1) v w) (on 2 caseA) (on 2 (second (using1 20_000 5_000 15_000 unusedPair))) 0 3_250 3_250
   -- task 3 begins to use it, and task 2 to read task 3
   pub begins : Moves (λ v w. SameWhereRead v w (level 1)) unlocked (on 1 caseA) 1 9_000 14_500
   -- task 1 takes lock 2 in place of lock 1, so that its ceiling rises, and task 2 begins to read task 3

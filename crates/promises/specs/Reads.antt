@@ -102,7 +102,7 @@ abbrev pub SameAnswers : (View → View → Level → Type 0) → Type 0
 SameAnswers R =
     (a b : Table) (i : ℕ) → Related (λ v w. R v w (level i)) a b → i < a .n → (allowance : ℕ) → boundOf b (level i) allowance ≡ boundOf a (level i) allowance
 
--- of the tasks that are named, the figures that a table has of each: `run` names those whose C is the same in both, `rest` those with the same T, D, N, c and CT
+-- m and n are the same in both, and of some tasks so are their figures: C of those that `run` names, T, D, N, c and CT of those that `rest` names
 pub record Unchanged (rest run : Level → Type 0) (v w : View) : Type 0 where
   pub cpus : w .cpus ≡ v .cpus
   pub n : w .n ≡ v .n
@@ -133,14 +133,14 @@ pub record VerdictReads : Type 0 where
   -- and so a program prints the same row of it, the tables being those of two listings
   pub printed : (s s' : List ℕ) (a b : Table) (allowance i : ℕ) (row row' : ℕ → Counted) → PrintsRows allowance s a row → PrintsRows allowance s' b row' → i < a .n
       → Related (λ v w. SameRead v w (level i)) a b → row' i ≡ row i
+  -- in particular "a longer C of a task, all else the same, changes nothing for the tasks above it"; nor does a shorter one
+  pub run-below : (j : Level) → SameAnswers (λ v w i. Above i j × OnlyRun j v w)
   -- no kind can be left out;
   pub needed : (k : Kind) → SameAnswers (SameBut k) → ⊥
   -- nor is it enough that the second is the first as far as the tasks go that are read in the first: another task may begin to be read
   pub not-enough : SameAnswers SameWhereRead → ⊥
   -- nor can the ceilings of the first be taken for both
   pub own-ceilings : SameAnswers SameByFirst → ⊥
-  -- in particular "a longer C of a task, all else the same, changes nothing for the tasks above it"; nor does a shorter one
-  pub run-below : (j : Level) → SameAnswers (λ v w i. Above i j × OnlyRun j v w)
   -- the tasks that i reads are those of which some units count in its demand
   pub reads-units : (t : Table) (i l : ℕ) → tableFault t ≡ Fine → l < t .n
       → Reads (viewOf t) (level i) (level l) exactly-if (1 ≤ unitsRead (viewOf t) (level i) (level l))
