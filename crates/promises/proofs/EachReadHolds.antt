@@ -19,7 +19,8 @@ use Rattle.promises.specs.NoEasier.{Related}
 use Rattle.promises.specs.NotEmpty.{on, caseA}
 use Rattle.promises.specs.Reads.{unitsRead, Kind, processors, tasks, run, deadline, requests, periodAbove, deadlineAbove, shared, other, free, periodBelow, deadlineBelow, high, longest, SameBut}
 use Rattle.promises.specs.EachRead.{Stays, Tells, TellsMiss, unlocked, apart, together, EachRead}
-use Rattle.promises.proofs.AgreeByTest.{agrees, numbered, isSame, isSameBut, same-by, same-but-by, same-by-first, unchanged, only-run-by, where-read-by}
+use Rattle.promises.proofs.AgreeByTest.{agrees, numbered, isSame, isSameBut, same-by, same-but-by, same-by-first}
+use Rattle.promises.proofs.UnchangedByTest.{unchanged, only-run-by, where-read-by}
 use Rattle.promises.proofs.NotEmptyHolds.{countedAt, moves-by, lost-by}
 use Rattle.promises.proofs.ReadsLaws.{fine-fitting}
 

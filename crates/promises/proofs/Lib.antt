@@ -1,7 +1,7 @@
 --   Demand1Holds, Demand2Holds, NoEasierHolds, NotEmptyHolds, DecimalsHold, ArchivesHold, PointsHold, WindowHolds, SalvagesHold, RoundsHold, EachReadHolds, ReadsHold   each promise, by citing the crate or the file that did the work
 --   NoEasierLaws                                                                                                                                                        the one result, over what the analysis reads of two tables
---   ReadsLaws, OnlyRunLaws                                                                                                                                              what a verdict reads: the demand is the same where two tables agree on it, and where one run time alone differs
---   ComparedByTest, AgreeByTest, ThreeTasks                                                                                                                             two tables compared, and held to what a verdict reads, each by one test that computes; the report on three tasks
+--   ReadsLaws, SameReadLaws, OnlyRunLaws                                                                                                                                what a verdict reads: of which tasks; the demand is the same where two tables agree on it, and where one run time alone differs
+--   ComparedByTest, AgreeByTest, UnchangedByTest, ThreeTasks                                                                                                            two tables compared, and held to what a verdict reads, each by one test that computes; the report on three tasks
 pub mod Demand1Holds
 pub mod Demand2Holds
 pub mod ComparedByTest
@@ -16,7 +16,9 @@ pub mod WindowHolds
 pub mod SalvagesHold
 pub mod RoundsHold
 pub mod ReadsLaws
+pub mod SameReadLaws
 pub mod OnlyRunLaws
 pub mod AgreeByTest
+pub mod UnchangedByTest
 pub mod EachReadHolds
 pub mod ReadsHold

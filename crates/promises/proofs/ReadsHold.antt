@@ -31,7 +31,8 @@ use Rattle.promises.specs.Reads.{Above, Reads, unitsRead, Kind, processo
 use Rattle.promises.proofs.Demand2Holds.{demand2}
 use Rattle.promises.proofs.ThreeTasks.{some-allowed}
 use Rattle.promises.proofs.RoundsHold.{rounds-hold}
-use Rattle.promises.proofs.ReadsLaws.{fine-fitting, units-read, read-units, demand-same, units-same}
+use Rattle.promises.proofs.ReadsLaws.{fine-fitting, units-read, read-units}
+use Rattle.promises.proofs.SameReadLaws.{demand-same, units-same}
 use Rattle.promises.proofs.OnlyRunLaws.{same-above}
 use Rattle.promises.proofs.EachReadHolds.{each-read}
 

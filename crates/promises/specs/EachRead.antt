@@ -86,7 +86,7 @@ pub record EachRead : Type 0 where
   pub told : EachTold
   -- task 2 runs longer, all else the same, and task 1 has its bound
   pub run-below : Moves (λ v w. Above (level 0) (level 1) × OnlyRun (level 1) v w) (on 2 caseA) (on 2 (second (using1 20_000 5_000 15_000 unusedPair))) 0 3_250 3_250
-  -- task 3 begins to use it, and task 2 to read task 3
+  -- task 3 begins to use the lock of task 1, and task 2 to read task 3
   pub begins : Moves (λ v w. SameWhereRead v w (level 1)) unlocked (on 1 caseA) 1 9_000 14_500
-  -- task 1 takes lock 2 in place of lock 1, so that its ceiling rises, and task 2 begins to read task 3
+  -- task 1 takes lock 2 in place of lock 1, so that the ceiling of lock 2 rises, and task 2 begins to read task 3
   pub lifts : Moves (λ v w. SameByFirst v w (level 1)) apart together 1 9_000 14_500
