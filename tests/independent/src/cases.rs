@@ -104,6 +104,38 @@ pub const FALLS_AS_READ: [&str; 2] = [
     "cpus 1\ntask 0.003 0.0016 0.002\nuse 1 2 0.001 0.0011\ntask 0.005 0.001 0.005\n",
 ];
 
+/// Where a printed bound does not hold, since a task that it reads misses: task 3's backlog makes task 4 late.
+pub const BACKLOG: &str = "cpus 2\ntask 6 3 3\ntask 6 3 3\ntask 3 2 2\ntask 30 1 30\n";
+
+/// The same of task 3, with the backlog of task 4, below it.
+pub const BACKLOG_BELOW: &str = include_str!("../../../examples/backlog-below.txt");
+
+/// The same of task 2, in the short form, with the backlog of task 1.
+pub const BACKLOG_ABOVE: &str = include_str!("../../../examples/backlog-above.txt");
+
+/// All meet, and task 1's bound does not hold where locks have FIFO queues.
+pub const QUEUED: &str = "cpus 2
+task 20 1 20
+use 1 1 1 1
+task 20 2 20
+use 1 1 2 2
+task 20 2 20
+use 1 1 2 2
+";
+
+/// All meet, and task 2's bound does not hold where the holder of a lock inherits by the letter of the report's section II.
+pub const TO_THE_LETTER: &str = "cpus 2
+task 60 1 60
+use 1 1 1 1
+task 60 1 60
+use 2 1 1 1
+task 60 10 60
+task 60 2 60
+use 2 1 2 2
+task 60 10 60
+use 1 1 10 10
+";
+
 /// The first demand that is worked out ends it: that of task 1 repeats, and that of task 2 passes its D.
 pub const ONE_ROUND: &str = "cpus 1\ntask 0.001 0.001 0.001\ntask 0.001 0.001 0.001\n";
 
@@ -431,6 +463,7 @@ pub fn listings() -> Vec<Vec<u8>> {
     all.extend(capped.map(|text| text.as_bytes().to_vec()));
     all.extend(rounds().into_iter().map(String::into_bytes));
     all.extend(longer().into_iter().map(String::into_bytes));
+    all.extend([BACKLOG, BACKLOG_BELOW, BACKLOG_ABOVE, QUEUED, TO_THE_LETTER].map(|text| text.as_bytes().to_vec()));
     all.push(largest().into_bytes());
     all.push(longest().into_bytes());
     // a miss, and a bound, in the very last round that `report` allows

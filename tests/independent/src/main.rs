@@ -15,6 +15,8 @@
 //!                                           the same run time, an empty line, and the task whose bound falls, with both bounds
 //!     independent compare REPORT BENCH PROBE ARCHIVE UNARCHIVE SALVAGE
 //!                                           run them on many listings, tables, times and cards and compare; exit 1 on a difference
+//!     independent simulate REPORT           simulate many schedules of systems in which all tasks meet by what REPORT prints; exit 1 on a job that is
+//!                                           later than its bound, 2 on bad input
 
 mod analysis;
 mod cap;
@@ -38,6 +40,7 @@ mod report;
 mod rounds;
 mod salvage;
 mod salvages;
+mod simulation;
 mod story;
 mod table;
 
@@ -92,9 +95,10 @@ fn main() -> ExitCode {
                 ExitCode::FAILURE
             }
         }
+        ["simulate", ref words @ ..] => simulation::simulate(words),
         _ => {
             eprintln!("usage: independent report | bench | archive | unarchive | salvage | times PROGRAM COMMAND INPUT | listings FOLDER |");
-            eprintln!("       story | easier | falls | compare REPORT BENCH PROBE ARCHIVE UNARCHIVE SALVAGE");
+            eprintln!("       story | easier | falls | compare REPORT BENCH PROBE ARCHIVE UNARCHIVE SALVAGE | simulate REPORT");
             ExitCode::FAILURE
         }
     }

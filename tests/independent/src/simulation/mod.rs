@@ -1,0 +1,81 @@
+//! Whether the printed bounds are bounds, tried against schedules: a simulator of global fixed-priority scheduling with priority inheritance, written
+//! from the report's sections II, III-A and IV, which knows nothing of workloads.
+
+mod audit;
+mod climb;
+mod draw;
+mod jobs;
+mod kernel;
+mod pins;
+mod printed;
+mod replays;
+mod search;
+mod systems;
+mod wrong;
+
+use crate::random::Random;
+use climb::{Late, Search};
+use printed::Report;
+use search::System;
+use std::process::ExitCode;
+
+const SEED: u64 = 1;
+const SYSTEMS: u64 = 3_000;
+/// Climbs in each system, and the steps of each.
+const CLIMBS: u64 = 3;
+const STEPS: u64 = 150;
+
+/// Why a run ends before its end.
+pub enum Stop {
+    /// One line that says what is wrong with the words of the command.
+    BadInput(String),
+    /// The report of a job that is later than its bound.
+    Late(String),
+}
+
+/// Exits 1 on a job that is later than its bound, 2 on bad input.
+pub fn simulate(words: &[&str]) -> ExitCode {
+    let tried = match words {
+        [report] => try_all(report),
+        _ => Err(Stop::BadInput("usage: independent simulate REPORT".into())),
+    };
+    ended(tried)
+}
+
+fn ended(result: Result<(), Stop>) -> ExitCode {
+    match result {
+        Ok(()) => ExitCode::SUCCESS,
+        Err(Stop::Late(text)) => {
+            print!("{text}");
+            ExitCode::FAILURE
+        }
+        Err(Stop::BadInput(line)) => {
+            eprintln!("{line}");
+            ExitCode::from(2)
+        }
+    }
+}
+
+fn try_all(path: &str) -> Result<(), Stop> {
+    let report = Report::new(path)?;
+    println!("schedules by hand: {} as worked out on paper, {} replayed as told", pins::hold(), replays::hold(&report));
+    println!("wrong analyses refuted, each by a job that is later than its bound");
+    for wrong in &wrong::ALL {
+        let (systems, count) = wrong.refuted(&report)?;
+        println!("  {}: in system {systems}, schedule {}", wrong.name, count.schedules);
+    }
+    let tried = search::through(&report, SEED, SYSTEMS, some_climbs)?;
+    println!("systems in which all tasks meet: {} searched, {} drawn", tried.searched, tried.drawn);
+    println!("  {} schedules, {} jobs, none later than its bound", tried.count.schedules, tried.count.jobs);
+    Ok(())
+}
+
+/// Towards a later finish of tasks that are picked at random, of those that others can delay if there are any.
+fn some_climbs(r: &mut Random, system: &System, search: &mut Search) -> Result<(), Box<Late>> {
+    let delayed = system.delayed();
+    for _ in 0..CLIMBS {
+        let target = if delayed.is_empty() { 0 } else { *r.pick(&delayed) };
+        search.climb(r, target, STEPS)?;
+    }
+    Ok(())
+}

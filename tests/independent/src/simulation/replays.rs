@@ -1,0 +1,149 @@
+//! Schedules in which a bound is passed because something is not as it presumes, told with their listings: a task misses, or the kernel is a wrong one. Each
+//! is replayed from its releases and segments, and takes exactly as long as told. With a right kernel no job of the last two is late.
+
+use super::climb::Scenario;
+use super::jobs::{free, may_be, request, Job, Jobs, Segment};
+use super::kernel::{Granting, Inheritance, Kernel, Order};
+use super::printed::Report;
+use crate::{cases, listing};
+
+/// What a right kernel may do at one instant does not matter in these schedules.
+const RIGHT: Kernel = Kernel {
+    granting: Granting::Scheduled,
+    inheritance: Inheritance::Waiting,
+    order: Order::Sorted { arrivals_first: false, lowest_first: false },
+};
+const RIGHT_HANDED: Kernel = Kernel { granting: Granting::Highest, ..RIGHT };
+const FIFO: Kernel = Kernel { granting: Granting::Longest, ..RIGHT };
+const TO_THE_LETTER: Kernel = Kernel { inheritance: Inheritance::WaitingAmongHighest, ..RIGHT };
+
+struct Replay {
+    listing: &'static str,
+    /// The numbers of the tasks that miss.
+    misses: &'static [usize],
+    /// The number of the task that is later than its bound, that bound, and its response time under these kernels.
+    task: usize,
+    bound: u64,
+    response: u64,
+    kernels: &'static [Kernel],
+    jobs: Jobs,
+}
+
+fn replays() -> Vec<Replay> {
+    vec![
+        Replay {
+            listing: cases::BACKLOG,
+            misses: &[3],
+            task: 4,
+            bound: 6_000,
+            response: 13_000,
+            kernels: &[RIGHT, RIGHT_HANDED],
+            jobs: vec![
+                alike(&[0, 6_000, 12_000, 18_000, 24_000, 30_000], &[free(3_000)]),
+                alike(&[0, 6_000, 12_000, 18_000, 27_000, 33_000], &[free(3_000)]),
+                alike(&[0, 3_000, 6_000, 9_000, 12_000, 15_000, 18_000, 21_000, 24_000, 27_000, 30_000, 33_000], &[free(2_000)]),
+                alike(&[24_000], &[free(1_000)]),
+            ],
+        },
+        Replay {
+            listing: cases::BACKLOG_BELOW,
+            misses: &[4],
+            task: 3,
+            bound: 10_000,
+            response: 10_800,
+            kernels: &[RIGHT, RIGHT_HANDED],
+            jobs: vec![
+                alike(&[10_200, 16_200], &[request(0, 1_000)]),
+                alike(&[10_200, 16_200], &[free(3_000)]),
+                alike(&[10_200], &[free(5_000)]),
+                vec![job(5_100, &[request(1, 1_000), request(0, 2_000)]), job(16_100, &[request(0, 2_000), request(1, 1_000)])],
+                alike(&[4_100], &[request(1, 5_000)]),
+            ],
+        },
+        Replay {
+            listing: cases::BACKLOG_ABOVE,
+            misses: &[1],
+            task: 2,
+            bound: 3_000,
+            response: 3_800,
+            kernels: &[RIGHT, RIGHT_HANDED],
+            jobs: vec![
+                vec![job(1_500, &[request(0, 1_000), request(1, 1_000)]), job(7_500, &[request(1, 1_000), request(0, 1_000)])],
+                alike(&[6_200], &[request(1, 1_000), request(1, 1_000)]),
+                alike(&[0], &[request(0, 5_000)]),
+            ],
+        },
+        Replay {
+            listing: cases::QUEUED,
+            misses: &[],
+            task: 1,
+            bound: 3_000,
+            response: 4_800,
+            kernels: &[FIFO],
+            jobs: vec![alike(&[200], &[request(0, 1_000)]), alike(&[100], &[request(0, 2_000)]), alike(&[0], &[request(0, 2_000)])],
+        },
+        Replay {
+            listing: cases::TO_THE_LETTER,
+            misses: &[],
+            task: 2,
+            bound: 3_000,
+            response: 12_500,
+            kernels: &[TO_THE_LETTER],
+            jobs: vec![
+                alike(&[300], &[request(0, 1_000)]),
+                alike(&[300], &[request(1, 1_000)]),
+                alike(&[300], &[free(10_000)]),
+                alike(&[100], &[request(1, 2_000)]),
+                alike(&[0], &[request(0, 10_000)]),
+            ],
+        },
+    ]
+}
+
+fn job(release: u64, segments: &[Segment]) -> Job {
+    Job { release, segments: segments.to_vec() }
+}
+
+fn alike(releases: &[u64], segments: &[Segment]) -> Vec<Job> {
+    releases.iter().map(|&release| job(release, segments)).collect()
+}
+
+/// Says how many there are, if each comes out as told.
+pub fn hold(report: &Report) -> usize {
+    let all = replays();
+    all.iter().for_each(|replay| replay.hold(report));
+    all.len()
+}
+
+impl Replay {
+    fn hold(&self, report: &Report) {
+        let table = listing::read(self.listing.as_bytes()).expect("an accepted listing");
+        let bounds = report.bounds(self.listing);
+        let missing: Vec<usize> = (1..).zip(&bounds).filter(|(_, bound)| bound.is_none()).map(|(number, _)| number).collect();
+        assert_eq!(missing, self.misses, "the tasks that miss in\n{}", self.listing);
+        assert_eq!(bounds[self.task - 1], Some(self.bound), "the bound of task {} in\n{}", self.task, self.listing);
+        assert!(may_be(&table, &self.jobs), "jobs out of their limits:\n{}", self.listing);
+        for &kernel in self.kernels {
+            let scenario = self.scenario(kernel);
+            assert_eq!(scenario.response(table.m, self.task - 1), self.response, "the response time told of task {} in\n{}", self.task, self.listing);
+            let right = [RIGHT, RIGHT_HANDED].contains(&kernel);
+            assert_eq!(scenario.audited(table.m).is_ok(), right, "{kernel:?}: a right schedule of\n{}", self.listing);
+        }
+        if self.misses.is_empty() {
+            self.meets(RIGHT, table.m, &bounds);
+            self.meets(RIGHT_HANDED, table.m, &bounds);
+        }
+    }
+
+    fn scenario(&self, kernel: Kernel) -> Scenario {
+        Scenario { jobs: self.jobs.clone(), kernel }
+    }
+
+    fn meets(&self, kernel: Kernel, m: u64, bounds: &[Option<u64>]) {
+        let scenario = self.scenario(kernel);
+        assert_eq!(scenario.audited(m), Ok(()), "{kernel:?} on\n{}", self.listing);
+        for (task, bound) in bounds.iter().enumerate() {
+            assert!(Some(scenario.response(m, task)) <= *bound, "task {} is late under {kernel:?} in\n{}", task + 1, self.listing);
+        }
+    }
+}

@@ -1,0 +1,133 @@
+//! Tables to simulate: random ones of small times, so that schedules are dense, and ones in which a certain term of the demand is likely to count. The
+//! periods are made as short as lets every task meet, so that bounds are not far from what can happen.
+
+use crate::analysis::{self, Verdict, UNLIMITED};
+use crate::random::Random;
+use crate::table::{Lock, Table, Task};
+
+/// How often periods are made longer. A table in which tasks still miss is not searched.
+const LONGER: u64 = 10;
+
+/// A table in which most likely all tasks meet. The analysis here is only to save time: `report` decides.
+pub fn draw(r: &mut Random) -> Table {
+    let shape = *r.pick(&[any, any, held_above, held_below, often_requested]);
+    let mut table = shape(r);
+    let_meet(&mut table);
+    shorten_deadlines(r, &mut table);
+    table
+}
+
+/// Processors and tasks; more tasks than processors three times in four.
+fn empty(r: &mut Random) -> Table {
+    let m = r.within(1, 4);
+    let n = if r.one_in(4) { r.within(2, 8) } else { r.within(m + 1, 8) };
+    Table { m, n, ..Table::zero() }
+}
+
+fn scale(r: &mut Random) -> u64 {
+    *r.pick(&[3, 6, 6, 12, 12, 40, 150, 600])
+}
+
+fn task(r: &mut Random, longest: u64) -> Task {
+    let c = r.within(1, longest);
+    let t = c * r.within(2, 9) + r.within(0, longest);
+    Task { t, c, d: t, ..Task::default() }
+}
+
+/// The task holds a lock for so long in all, by up to so many requests.
+fn hold(r: &mut Random, task: &mut Task, k: usize, ct: u64, requests: u64) {
+    let n = r.within(1, requests);
+    let c = r.within(ct.div_ceil(n), ct);
+    task.locks[k] = Lock { n, c, ct };
+}
+
+/// Any locks or none in any task.
+fn any(r: &mut Random) -> Table {
+    let (mut table, longest, locks) = (empty(r), scale(r), *r.pick(&[0, 1, 1, 2, 3]));
+    for slot in 0..table.n as usize {
+        let mut task = task(r, longest);
+        for k in 0..locks {
+            let left = task.outside_locks();
+            if left > 0 && r.one_in(2) {
+                let ct = if r.one_in(4) { left } else { r.within(1, left) };
+                hold(r, &mut task, k, ct, 3);
+            }
+        }
+        table.tasks[slot] = task;
+    }
+    table
+}
+
+/// For O: the higher tasks run under locks that the lower ones do not use, most of their time.
+fn held_above(r: &mut Random) -> Table {
+    let (mut table, longest) = (empty(r), scale(r));
+    let locks = *r.pick(&[1, 2, 2, 3]);
+    let last_holder = r.within(1, table.n - 1) as usize;
+    for slot in 0..table.n as usize {
+        let mut task = task(r, longest);
+        if slot < last_holder {
+            let ct = r.within(task.c.div_ceil(2), task.c);
+            hold(r, &mut task, slot % locks, ct, 2);
+        }
+        table.tasks[slot] = task;
+    }
+    table
+}
+
+/// For L: the lowest tasks hold, for long, locks that the highest use for short, and those between use none of them.
+fn held_below(r: &mut Random) -> Table {
+    let (mut table, longest) = (empty(r), scale(r));
+    let high = r.within(1, table.m.min(table.n - 1)) as usize;
+    let low = table.n as usize - r.within(1, high.min(table.n as usize - high) as u64) as usize;
+    for slot in 0..table.n as usize {
+        let mut task = task(r, longest);
+        if slot < high {
+            let ct = r.within(1, task.c.div_ceil(3));
+            hold(r, &mut task, slot, ct, 1);
+        } else if slot >= low {
+            let ct = r.within(task.c.div_ceil(2), task.c);
+            hold(r, &mut task, slot - low, ct, 2);
+        }
+        table.tasks[slot] = task;
+    }
+    table
+}
+
+/// For DB and S: one lock, which tasks request several times each.
+fn often_requested(r: &mut Random) -> Table {
+    let (mut table, longest) = (empty(r), scale(r));
+    for slot in 0..table.n as usize {
+        let mut task = task(r, longest);
+        if !r.one_in(3) {
+            let ct = r.within(1, task.c);
+            hold(r, &mut task, 0, ct, 4);
+        }
+        table.tasks[slot] = task;
+    }
+    table
+}
+
+/// Makes the periods and deadlines of the tasks that miss longer, a few times.
+fn let_meet(table: &mut Table) {
+    for _ in 0..LONGER {
+        let found = analysis::quick(table, UNLIMITED);
+        for (task, _) in table.tasks.iter_mut().zip(&found).filter(|(_, found)| found.verdict == Verdict::Misses) {
+            task.t = (task.t * 4).div_ceil(3);
+            task.d = task.t;
+        }
+    }
+}
+
+/// A deadline may be as short as the bound: no demand grows when one falls.
+fn shorten_deadlines(r: &mut Random, table: &mut Table) {
+    for (task, found) in analysis::quick(table, UNLIMITED).into_iter().enumerate() {
+        let task = &mut table.tasks[task];
+        if let Verdict::Meets(bound) = found.verdict {
+            task.d = match r.within(0, 3) {
+                0 => task.d,
+                1 => r.within(bound, task.d),
+                _ => bound,
+            };
+        }
+    }
+}

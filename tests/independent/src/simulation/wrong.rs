@@ -1,0 +1,90 @@
+//! Wrong analyses, each of which the search refutes: some job is later than its wrong bound. So the search can fail.
+
+use super::climb::{Count, Search};
+use super::printed::Report;
+use super::search::{System, Systems};
+use super::Stop;
+use crate::analysis::{self, Terms, UNLIMITED};
+use crate::random::Random;
+use crate::table::{Table, LOCKS};
+
+const SEED: u64 = 2;
+/// Each is refuted within so many systems, by climbs of so many steps.
+const SYSTEMS: u64 = 60;
+const STEPS: u64 = 150;
+
+/// What is wrong with it, and its demand for the task at `i` (from 0) by the terms at one length.
+pub struct Wrong {
+    pub name: &'static str,
+    demand: fn(&Table, usize, Terms) -> u64,
+}
+
+pub const ALL: [Wrong; 8] = [
+    Wrong { name: "no DB", demand: |table, i, terms| Terms { db: 0, ..terms }.demand(table, i) },
+    Wrong { name: "DB once a lock", demand: |table, i, terms| Terms { db: once_a_lock(table, i), ..terms }.demand(table, i) },
+    Wrong { name: "S divided by m", demand: s_divided },
+    Wrong { name: "no S", demand: |table, i, terms| Terms { s: 0, ..terms }.demand(table, i) },
+    Wrong { name: "no O", demand: |table, i, terms| Terms { o: 0, ..terms }.demand(table, i) },
+    Wrong { name: "no F", demand: |table, i, terms| Terms { f: 0, ..terms }.demand(table, i) },
+    Wrong { name: "no L", demand: |table, i, terms| Terms { l: 0, ..terms }.demand(table, i) },
+    Wrong { name: "the short form up to task m + 1", demand: short_up_to_next },
+];
+
+impl Wrong {
+    /// In how many systems, and by how many schedules, it is refuted.
+    pub fn refuted(&self, report: &Report) -> Result<(u64, Count), Stop> {
+        let mut systems = Systems::new(report, SEED);
+        let mut r = Random::new(!SEED);
+        let mut count = Count::default();
+        for searched in 1..=SYSTEMS {
+            let system = systems.next();
+            let found = self.refuted_by(&mut r, &system, &mut count)?;
+            if found {
+                return Ok((searched, count));
+            }
+        }
+        panic!("not refuted by {SYSTEMS} systems: {}", self.name);
+    }
+
+    /// Whether a job of this system is later than its wrong bound. None may be later than the printed one.
+    fn refuted_by(&self, r: &mut Random, system: &System, count: &mut Count) -> Result<bool, Stop> {
+        let bounds = self.bounds(&system.table);
+        let mut search = Search::new(&system.table, &bounds);
+        let smaller = (0..bounds.len()).filter(|&task| bounds[task] < system.bounds[task]);
+        let late = smaller.map(|target| search.climb(r, target, STEPS)).find_map(Result::err);
+        count.add(search.count);
+        match late {
+            Some(late) if late.response > system.bounds[late.task] => Err(Stop::Late(system.told(&late))),
+            late => Ok(late.is_some()),
+        }
+    }
+
+    /// The wrong bounds of a table in which all tasks meet: so they do by a demand that is nowhere larger.
+    pub fn bounds(&self, table: &Table) -> Vec<u64> {
+        let bound = |i: usize| {
+            let demand = |t| (self.demand)(table, i, analysis::terms(table, i, t, analysis::workload));
+            analysis::replaced(table.tasks[i].c, table.tasks[i].d, UNLIMITED, demand).bound()
+        };
+        (0..table.n as usize).map(bound).collect()
+    }
+}
+
+/// The largest request below for each lock of the task, once instead of N times.
+fn once_a_lock(table: &Table, i: usize) -> u64 {
+    let longest_below = |k: usize| table.used()[i + 1..].iter().map(|task| task.locks[k].c).max().unwrap_or(0);
+    (0..LOCKS).filter(|&k| table.tasks[i].locks[k].n > 0).map(longest_below).sum()
+}
+
+fn is_short(table: &Table, i: usize) -> bool {
+    (i as u64) < table.m
+}
+
+fn s_divided(table: &Table, i: usize, Terms { db, s, o, f, l }: Terms) -> u64 {
+    let others = if is_short(table, i) { 0 } else { o + f + l };
+    table.tasks[i].c + db + (s + others).div_ceil(table.m)
+}
+
+fn short_up_to_next(table: &Table, i: usize, terms: Terms) -> u64 {
+    let terms = if i as u64 == table.m { Terms { o: 0, f: 0, l: 0, ..terms } } else { terms };
+    terms.demand(table, i)
+}
