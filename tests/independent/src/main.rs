@@ -17,6 +17,8 @@
 //!                                           run them on many listings, tables, times and cards and compare; exit 1 on a difference
 //!     independent simulate REPORT           simulate many schedules of systems in which all tasks meet by what REPORT prints; exit 1 on a job that is
 //!                                           later than its bound, 2 on bad input
+//!     independent closeness REPORT SYSTEMS SEED PAGE PICTURE
+//!                                           the same of so many systems from a seed, and write a page and a picture on how close to the bounds they come
 
 mod analysis;
 mod cap;
@@ -96,9 +98,11 @@ fn main() -> ExitCode {
             }
         }
         ["simulate", ref words @ ..] => simulation::simulate(words),
+        ["closeness", ref words @ ..] => simulation::closeness(words),
         _ => {
             eprintln!("usage: independent report | bench | archive | unarchive | salvage | times PROGRAM COMMAND INPUT | listings FOLDER |");
-            eprintln!("       story | easier | falls | compare REPORT BENCH PROBE ARCHIVE UNARCHIVE SALVAGE | simulate REPORT");
+            eprintln!("       story | easier | falls | compare REPORT BENCH PROBE ARCHIVE UNARCHIVE SALVAGE |");
+            eprintln!("       simulate REPORT | closeness REPORT SYSTEMS SEED PAGE PICTURE");
             ExitCode::FAILURE
         }
     }

@@ -53,6 +53,7 @@ pub struct Doing {
 }
 
 /// A part of a schedule in which nothing changes, and what each task does in it.
+#[derive(Clone)]
 pub struct Interval {
     pub from: u64,
     pub to: u64,

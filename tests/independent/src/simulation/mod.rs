@@ -3,13 +3,17 @@
 
 mod audit;
 mod climb;
+mod closeness;
 mod draw;
 mod jobs;
 mod kernel;
+mod page;
+mod picture;
 mod pins;
 mod printed;
 mod replays;
 mod search;
+mod spoiled;
 mod systems;
 mod wrong;
 
@@ -42,6 +46,15 @@ pub fn simulate(words: &[&str]) -> ExitCode {
     ended(tried)
 }
 
+/// The same exit statuses; if there is no such job, a page and its picture are written.
+pub fn closeness(words: &[&str]) -> ExitCode {
+    let written = match words {
+        [report, systems, seed, page, picture] => closeness::write(report, systems, seed, page, picture),
+        _ => Err(Stop::BadInput("usage: independent closeness REPORT SYSTEMS SEED PAGE PICTURE".into())),
+    };
+    ended(written)
+}
+
 fn ended(result: Result<(), Stop>) -> ExitCode {
     match result {
         Ok(()) => ExitCode::SUCCESS,
@@ -59,6 +72,7 @@ fn ended(result: Result<(), Stop>) -> ExitCode {
 fn try_all(path: &str) -> Result<(), Stop> {
     let report = Report::new(path)?;
     println!("schedules by hand: {} as worked out on paper, {} replayed as told", pins::hold(), replays::hold(&report));
+    println!("schedules spoiled on purpose: {} found out by the audit", spoiled::hold());
     println!("wrong analyses refuted, each by a job that is later than its bound");
     for wrong in &wrong::ALL {
         let (systems, count) = wrong.refuted(&report)?;

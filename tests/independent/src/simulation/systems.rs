@@ -17,10 +17,14 @@ pub fn draw(r: &mut Random) -> Table {
     table
 }
 
-/// Processors and tasks; more tasks than processors three times in four.
+/// Processors and tasks: mostly more tasks than processors, often few more, since the fewer delay a task, the closer to its bound it comes.
 fn empty(r: &mut Random) -> Table {
     let m = r.within(1, 4);
-    let n = if r.one_in(4) { r.within(2, 8) } else { r.within(m + 1, 8) };
+    let n = match r.within(0, 3) {
+        0 => r.within(2, 8),
+        1 => r.within(m + 1, 8),
+        _ => r.within(m + 1, m + 2),
+    };
     Table { m, n, ..Table::zero() }
 }
 

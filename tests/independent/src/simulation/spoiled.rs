@@ -1,0 +1,64 @@
+//! Schedules spoiled on purpose: the audit finds what is wrong with each.
+
+use super::audit;
+use super::jobs::{free, request, Job, Jobs, Segment};
+use super::kernel::{Finishes, Granting, Inheritance, Interval, Kernel, Order};
+
+/// On one processor. Task 1 waits for task 3's lock from 2 to 4, has it to 5, and task 2 runs from then to 10.
+fn inherited() -> Jobs {
+    vec![vec![job(2, &[request(0, 1)])], vec![job(2, &[free(5)])], vec![job(0, &[request(0, 4)])]]
+}
+
+/// On one processor. Task 2 waits for task 3's lock, which it is handed at 3, when task 1 has the processor; it has it to 5 without running.
+fn handed() -> Jobs {
+    vec![vec![job(3, &[free(2)])], vec![job(1, &[request(0, 1)])], vec![job(0, &[request(0, 3)])]]
+}
+
+fn job(release: u64, segments: &[Segment]) -> Job {
+    Job { release, segments: segments.to_vec() }
+}
+
+type Spoil = fn(&mut Vec<Interval>, &mut Finishes);
+
+const INHERITED: &[(&str, Spoil)] = &[
+    ("from 2 to 4: more run than there are processors", |all, _| all[1].doing[1].runs = true),
+    ("from 2 to 4: task 1 runs and may not", |all, _| (all[1].doing[0].runs, all[1].doing[2].runs) = (true, false)),
+    ("from 0 to 2: task 2 runs and may not", |all, _| (all[0].doing[1].runs, all[0].doing[2].runs) = (true, false)),
+    ("from 2 to 4: task 3 does not run and could", |all, _| (all[1].doing[1].runs, all[1].doing[2].runs) = (true, false)),
+    ("from 4 to 5: task 1 does not run and could", |all, _| (all[2].doing[0].runs, all[2].doing[1].runs) = (false, true)),
+    ("from 2 to 4: task 2 holds a lock out of its request", |all, _| all[1].doing[1].holds = Some(0)),
+    ("from 2 to 4: task 1 holds a lock that another holds", |all, _| all[1].doing[0].holds = Some(0)),
+    ("from 2 to 4: task 1 waits for nobody", |all, _| all[1].doing[2].holds = None),
+    ("from 2 to 4: task 3 lost its lock", |all, _| (all[1].doing[0].waits, all[1].doing[2].holds) = (false, None)),
+    ("from 5 to 10: time was skipped", |all, _| drop(all.remove(2))),
+    ("from 0 to 4: an event was skipped", |all, _| all[0].to = all.remove(1).to),
+    ("from 4 to 10: task 1 runs past a segment", |all, _| all[2].to = all.remove(3).to),
+    ("jobs were seen to finish at [[5], [10], [4]], not [[5], [9], [4]]", |_, finishes| finishes[1] = vec![9]),
+    ("a job is not finished", |all, finishes| {
+        all.pop();
+        finishes[1].pop();
+    }),
+];
+
+const HANDED: &[(&str, Spoil)] = &[("from 4 to 5: task 2 did not keep its lock", |all, _| {
+    let mut later = all[2].clone();
+    (all[2].to, later.from) = (4, 4);
+    later.doing[1].holds = None;
+    all.insert(3, later);
+})];
+
+/// Says how many there are, if each is found out.
+pub fn hold() -> usize {
+    INHERITED.iter().for_each(|(fault, spoil)| found_out(&inherited(), fault, *spoil));
+    HANDED.iter().for_each(|(fault, spoil)| found_out(&handed(), fault, *spoil));
+    INHERITED.len() + HANDED.len()
+}
+
+fn found_out(jobs: &Jobs, fault: &str, spoil: Spoil) {
+    let order = Order::Sorted { arrivals_first: true, lowest_first: false };
+    let kernel = Kernel { granting: Granting::Highest, inheritance: Inheritance::Waiting, order };
+    let (mut finishes, mut intervals) = kernel.schedule(1, jobs);
+    assert_eq!(audit::fault(1, jobs, &finishes, &intervals), Ok(()), "what is spoiled must be right before");
+    spoil(&mut intervals, &mut finishes);
+    assert_eq!(audit::fault(1, jobs, &finishes, &intervals), Err(fault.into()), "a spoiled schedule");
+}
