@@ -1,11 +1,9 @@
 //! How close the largest response time that was observed of a task comes to its bound, for many tasks, by class.
 
-use super::climb::{Late, Search};
 use super::printed::Report;
 use super::search::{self, System, Tried};
-use super::{page, picture, Stop};
+use super::{page, picture, systems, Stop};
 use crate::analysis::{terms, workload};
-use crate::random::Random;
 use std::path::Path;
 
 /// Each task of each system is the target of so many climbs of so many steps.
@@ -23,7 +21,7 @@ pub struct Class {
 const CLASSES: [&str; 4] = ["i ≤ m, without locks", "i ≤ m, with locks", "i > m, without locks", "i > m, with locks"];
 
 /// Where a task's class stands: by its number, and by whether a lock counts in its demand at its bound.
-fn place(System { table, bounds }: &System, task: usize) -> usize {
+fn place(System { table, bounds, .. }: &System, task: usize) -> usize {
     let terms = terms(table, task, bounds[task], workload);
     let long = task as u64 >= table.m;
     let by_locks = terms.db + terms.s + if long { terms.o + terms.l } else { 0 };
@@ -61,8 +59,9 @@ fn put(path: &str, text: &str) -> Result<(), Stop> {
 
 fn observe(report: &Report, systems: u64, seed: u64) -> Result<(Tried, [Class; 4]), Stop> {
     let mut classes = CLASSES.map(|name| Class { name, quotients: Vec::new() });
-    let tried = search::through(report, seed, systems, |r, system, search| {
-        climb_to_each(r, system, search)?;
+    let drawn = search::meeting(report, systems::random(seed)).zip(0..systems).map(|(system, _)| system);
+    let tried = search::through(drawn, seed, |r, system, search| {
+        search::climb_to_each(r, search, CLIMBS, STEPS)?;
         for (task, (&observed, &bound)) in search.largest.iter().zip(&system.bounds).enumerate() {
             classes[place(system, task)].quotients.push(observed as f64 / bound as f64);
         }
@@ -70,15 +69,6 @@ fn observe(report: &Report, systems: u64, seed: u64) -> Result<(Tried, [Class; 4
     })?;
     classes.iter_mut().for_each(|class| class.quotients.sort_by(f64::total_cmp));
     Ok((tried, classes))
-}
-
-fn climb_to_each(r: &mut Random, system: &System, search: &mut Search) -> Result<(), Box<Late>> {
-    for target in 0..system.bounds.len() {
-        for _ in 0..CLIMBS {
-            search.climb(r, target, STEPS)?;
-        }
-    }
-    Ok(())
 }
 
 impl Class {

@@ -1,37 +1,50 @@
-//! Jobs of a table drawn at random, all within its limits, and small changes of them.
+//! Jobs of a table and choices of the kernel, drawn at random, all within the limits of the table and the model.
 
-use super::jobs::{free, may_run, request, Job, Jobs, Segment};
+use super::jobs::{free, joined, request, Job, Jobs, Segment};
+use super::kernel::{Granting, Inheritance, Kernel, Order};
 use crate::random::Random;
 use crate::table::{Table, Task};
 
-/// What one job of a task runs. Most run all that they may.
+/// One of the kernels that the model allows. Where the lowest comes first, it may take its lock just before a higher one arrives.
+pub fn kernel(r: &mut Random) -> Kernel {
+    let granting = *r.pick(&[Granting::Scheduled, Granting::Highest]);
+    let order = match r.within(0, 5) {
+        0 => Order::Sorted { arrivals_first: r.one_in(2), lowest_first: false },
+        1 | 2 => Order::Sorted { arrivals_first: r.one_in(2), lowest_first: true },
+        _ => Order::Drawn(r.next()),
+    };
+    Kernel { granting, inheritance: Inheritance::Waiting, order }
+}
+
+/// What one job of a task runs: mostly all that it may.
 pub fn segments(r: &mut Random, task: &Task) -> Vec<Segment> {
     let mut drawn = requests(r, task);
     shuffle(r, &mut drawn);
     let held: u64 = drawn.iter().map(|request| request.length).sum();
     // what a job does not use of its lock times it may run outside of locks
     let left = task.c - held;
-    let least = if held == 0 { 1 } else { 0 };
-    let outside = if r.one_in(4) { r.within(least, left.max(least)) } else { left };
+    let least = (held == 0) as u64;
+    let outside = if r.one_in(4) { r.within(least, left) } else { left };
     spread(r, &mut drawn, outside);
-    drawn
+    joined(drawn)
 }
 
-/// The requests of one job: all that the task may make, or some.
+/// The requests of one job: mostly as many and as long as the task may make.
 fn requests(r: &mut Random, task: &Task) -> Vec<Segment> {
     let mut drawn = Vec::new();
     for (k, lock) in task.locks.iter().enumerate().filter(|(_, lock)| lock.n > 0) {
-        if r.one_in(10) {
-            continue;
-        }
-        let mut left = if r.one_in(4) { r.within(1, lock.ct) } else { lock.ct };
+        let mut left = match r.within(0, 9) {
+            0 => 0,
+            1 | 2 => r.within(1, lock.ct),
+            _ => lock.ct,
+        };
         for still in (0..lock.n).rev() {
-            // what the requests still to come cannot hold, this one must, unless the job uses less
-            let least = left.saturating_sub(still * lock.c).clamp(1, lock.c);
-            let most = left.min(lock.c);
-            if most < least {
+            if left == 0 {
                 break;
             }
+            // what the requests that are still to come cannot hold, this one does
+            let least = left.saturating_sub(still * lock.c).max(1);
+            let most = left.min(lock.c);
             let length = if r.one_in(2) { most } else { r.within(least, most) };
             drawn.push(request(k, length));
             left -= length;
@@ -56,26 +69,14 @@ fn spread(r: &mut Random, segments: &mut Vec<Segment>, mut outside: u64) {
     }
 }
 
-/// Releases at least T apart that cover a stretch of time, one of them at `through`. Most are just T apart.
-pub fn releases(r: &mut Random, task: &Task, through: u64, end: u64, first_only: bool) -> Vec<u64> {
-    let gap = |r: &mut Random| if r.one_in(6) { task.t + r.within(0, task.t) } else { task.t };
-    let mut all = vec![through];
-    while !first_only && all[0] >= 2 * task.t {
-        all.insert(0, all[0] - gap(r));
-    }
-    while all[all.len() - 1] + task.t <= end {
-        all.push(all[all.len() - 1] + gap(r));
-    }
-    all
-}
-
-/// Jobs of a table around the release of a target at `start`, up to `end`.
+/// Jobs of a table around the release of a target at `start`, which is not 0, up to `end`.
 pub fn jobs(r: &mut Random, table: &Table, target: usize, start: u64, end: u64) -> Jobs {
-    let through = *r.pick(&[at_any_time, at_once, lower_just_before, carried_in]);
-    let first_only = r.one_in(3);
+    let release = *r.pick(&[at_any_time, at_once, lower_just_before, carried_in]);
+    let from_there_on = r.one_in(3);
     let each = |(slot, task): (usize, &Task)| {
-        let at = if slot == target { start } else { through(r, task, slot > target, start) };
-        let releases = releases(r, task, at, end, first_only);
+        let at = if slot == target { start } else { release(r, task, slot > target, start) };
+        let mut releases = if from_there_on { vec![] } else { earlier(r, task, at) };
+        releases.extend(later(r, task, at, end));
         releases.into_iter().map(|release| Job { release, segments: segments(r, task) }).collect()
     };
     table.used().iter().enumerate().map(each).collect()
@@ -94,59 +95,25 @@ fn lower_just_before(r: &mut Random, _: &Task, lower: bool, start: u64) -> u64 {
     if lower { start - r.within(0, 1) } else { start }
 }
 
-/// A job that is released before the target, and would just meet its deadline if it ran all the time from the target's release on.
+/// Released before the target, with a deadline by which it can run at most C from the target's release on.
 fn carried_in(r: &mut Random, task: &Task, _: bool, start: u64) -> u64 {
     (start + r.within(1, task.c)).saturating_sub(task.d)
 }
 
-/// Moves one job of a task to some instant, and those before and after it as far as they must. False, and the jobs are spoiled, if there is no room.
-pub fn place(jobs: &mut [Job], at: usize, release: u64, t: u64) -> bool {
-    jobs[at].release = release;
-    for next in at + 1..jobs.len() {
-        jobs[next].release = jobs[next].release.max(jobs[next - 1].release + t);
-    }
-    for previous in (0..at).rev() {
-        let Some(latest) = jobs[previous + 1].release.checked_sub(t) else { return false };
-        jobs[previous].release = jobs[previous].release.min(latest);
-    }
-    true
+/// Mostly just T.
+fn gap(r: &mut Random, task: &Task) -> u64 {
+    if r.one_in(6) { task.t + r.within(0, task.t) } else { task.t }
 }
 
-/// Puts the jobs after one, or before it, just T apart. False, and the jobs are spoiled, if there is no room.
-pub fn pack(jobs: &mut [Job], at: usize, t: u64, after: bool) -> bool {
-    if after {
-        for next in at + 1..jobs.len() {
-            jobs[next].release = jobs[next - 1].release + t;
-        }
-        return true;
-    }
-    for previous in (0..at).rev() {
-        let Some(latest) = jobs[previous + 1].release.checked_sub(t) else { return false };
-        jobs[previous].release = latest;
-    }
-    true
+/// The releases before one, as far as there is room.
+fn earlier(r: &mut Random, task: &Task, at: u64) -> Vec<u64> {
+    let mut all: Vec<u64> = std::iter::successors(Some(at), |release| release.checked_sub(gap(r, task))).skip(1).collect();
+    all.reverse();
+    all
 }
 
-/// A small change of what a job runs, or none if the task may not run that.
-pub fn changed(r: &mut Random, task: &Task, segments: &[Segment]) -> Option<Vec<Segment>> {
-    let mut new = segments.to_vec();
-    let at = r.next() as usize % new.len();
-    let other = r.next() as usize % new.len();
-    match r.within(0, 3) {
-        0 => new.swap(at, other),
-        1 => {
-            let step = r.within(1, new[at].length.min(3));
-            new[at].length -= step;
-            new[other].length += step;
-            new.retain(|segment| segment.length > 0);
-        }
-        2 => {
-            let length = r.within(1, new[at].length);
-            new[at].length -= length;
-            new.insert(other, Segment { length, ..new[at] });
-            new.retain(|segment| segment.length > 0);
-        }
-        _ => new[at].length += r.within(1, 3),
-    }
-    may_run(task, &new).then_some(new)
+/// One release and those after it.
+fn later(r: &mut Random, task: &Task, at: u64, end: u64) -> Vec<u64> {
+    let after = std::iter::successors(Some(at), |release| Some(release + gap(r, task)));
+    after.enumerate().take_while(|&(place, release)| place == 0 || release <= end).map(|(_, release)| release).collect()
 }

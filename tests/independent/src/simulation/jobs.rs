@@ -28,6 +28,18 @@ pub fn request(lock: usize, length: u64) -> Segment {
     Segment { lock: Some(lock), length }
 }
 
+/// The same with neighbours that are both free made one, and without empty ones.
+pub fn joined(segments: Vec<Segment>) -> Vec<Segment> {
+    let mut all: Vec<Segment> = Vec::with_capacity(segments.len());
+    for segment in segments.into_iter().filter(|segment| segment.length > 0) {
+        match all.last_mut() {
+            Some(last) if last.lock.is_none() && segment.lock.is_none() => last.length += segment.length,
+            _ => all.push(segment),
+        }
+    }
+    all
+}
+
 /// Whether one job of the task may run this: no more than C in all, and of each lock no more requests than N, none longer than c, together no
 /// longer than CT. No lock is nested, as a segment has one at most.
 pub fn may_run(task: &Task, segments: &[Segment]) -> bool {

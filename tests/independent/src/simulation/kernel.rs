@@ -4,6 +4,7 @@
 use super::jobs::{Job, Jobs, Segment};
 use crate::random::Random;
 use crate::table::LOCKS;
+use std::fmt;
 
 /// Who gets a lock that was released.
 #[derive(Clone, Copy, PartialEq, Eq, Debug)]
@@ -39,6 +40,21 @@ pub struct Kernel {
     pub granting: Granting,
     pub inheritance: Inheritance,
     pub order: Order,
+}
+
+impl fmt::Display for Kernel {
+    fn fmt(&self, f: &mut fmt::Formatter) -> fmt::Result {
+        let granting = match self.granting {
+            Granting::Scheduled => "is taken by the highest that is scheduled and asks",
+            Granting::Highest => "goes to the highest that waits",
+            Granting::Longest => "goes to who has waited longest",
+        };
+        let inheritance = match self.inheritance {
+            Inheritance::Waiting => "",
+            Inheritance::WaitingAmongHighest => ", and its holder inherits only from one of the m highest",
+        };
+        writeln!(f, "a lock {granting}{inheritance}; the order of events at one instant: {:?}", self.order)
+    }
 }
 
 /// When each job of each task finishes.

@@ -1,9 +1,9 @@
 //! Small schedules made by hand, with the finishes that were worked out on paper: what the kernel does about preemption, inheritance, waiting,
 //! granting and the order of events at one instant.
 
-use super::climb::Scenario;
 use super::jobs::{free, may_be, request, Job, Segment};
 use super::kernel::{Granting, Inheritance, Kernel, Order};
+use super::scenario::Scenario;
 use crate::{cases, listing};
 
 const HIGHEST_FIRST: Order = Order::Sorted { arrivals_first: false, lowest_first: false };

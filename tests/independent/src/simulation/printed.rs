@@ -35,7 +35,9 @@ impl Report<'_> {
         let answer = compare::run(self.path, listing.as_bytes());
         let text = std::str::from_utf8(answer.output()).ok()?;
         let rows = text.strip_prefix("task verdict bound_us rounds\n")?;
-        (1..).zip(rows.lines()).map(|(number, row)| bound(number, row)).collect()
+        let bounds: Vec<Option<u64>> = (1..).zip(rows.lines()).map(|(number, row)| bound(number, row)).collect::<Option<_>>()?;
+        let tasks = listing.lines().filter(|line| line.starts_with("task ")).count();
+        (bounds.len() == tasks).then_some(bounds)
     }
 }
 

@@ -1,10 +1,10 @@
 //! Schedules in which a bound is passed because something is not as it presumes, told with their listings: a task misses, or the kernel is a wrong one. Each
 //! is replayed from its releases and segments, and takes exactly as long as told. With a right kernel no job of the last two is late.
 
-use super::climb::Scenario;
 use super::jobs::{free, may_be, request, Job, Jobs, Segment};
 use super::kernel::{Granting, Inheritance, Kernel, Order};
 use super::printed::Report;
+use super::scenario::Scenario;
 use crate::{cases, listing};
 
 /// What a right kernel may do at one instant does not matter in these schedules.

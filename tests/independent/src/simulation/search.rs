@@ -1,48 +1,34 @@
 //! The search through systems in which all tasks meet by what `report` prints: no job may be later than its bound.
 
-use super::climb::{Count, Late, Search};
+use super::climb::{Count, Search};
 use super::printed::Report;
-use super::systems;
+use super::scenario::Late;
 use super::Stop;
 use crate::listing;
 use crate::random::Random;
 use crate::table::Table;
 
-/// A system and the bounds that are printed of it.
+/// A table in which all tasks meet, the bounds that are printed of it, and how many tables were looked at before and with it.
 pub struct System {
     pub table: Table,
     pub bounds: Vec<u64>,
-}
-
-/// Systems from a seed, as many as are asked for.
-pub struct Systems<'a> {
-    report: &'a Report<'a>,
-    r: Random,
-    pub drawn: u64,
+    looked_at: u64,
 }
 
 /// What was tried.
+#[derive(Default)]
 pub struct Tried {
     pub drawn: u64,
     pub searched: u64,
     pub count: Count,
 }
 
-impl<'a> Systems<'a> {
-    pub fn new(report: &'a Report, seed: u64) -> Systems<'a> {
-        Systems { report, r: Random::new(seed), drawn: 0 }
-    }
-
-    /// The next in which all tasks meet; those in which one misses are skipped.
-    pub fn next(&mut self) -> System {
-        loop {
-            self.drawn += 1;
-            let drawn = systems::draw(&mut self.r);
-            if let Some(bounds) = self.report.all_meet(&listing::write(&drawn)) {
-                return System { table: drawn, bounds };
-            }
-        }
-    }
+/// The systems among these tables; the others are skipped.
+pub fn meeting<'a>(report: &'a Report, tables: impl Iterator<Item = Table> + 'a) -> impl Iterator<Item = System> + 'a {
+    (1..).zip(tables).filter_map(|(looked_at, table)| {
+        let bounds = report.all_meet(&listing::write(&table))?;
+        Some(System { table, bounds, looked_at })
+    })
 }
 
 impl System {
@@ -52,29 +38,38 @@ impl System {
     }
 
     /// A job that is later than its bound, for people to read.
-    pub fn told(&self, late: &Late) -> String {
-        let (number, bound) = (late.task + 1, self.bounds[late.task]);
-        let heading = format!("task {number} takes {} us, {} us longer than its bound of {bound} us", late.response, late.response - bound);
-        format!("{heading}, in\n{}with the jobs\n{}", listing::write(&self.table), late.scenario.text())
+    pub fn told(&self, late: Late) -> Stop {
+        let bound = self.bounds[late.task];
+        let Late { scenario, task, response } = late.shrunk(self.table.m, bound);
+        let heading = format!("task {} takes {response} us, {} us longer than its bound of {bound} us", task + 1, response - bound);
+        Stop::Late(format!("{heading}, in\n{}by these jobs, times in ms\n{}", listing::write(&self.table), scenario.text()))
     }
 }
 
-/// Searches so many systems; `each` does the climbs of one.
+/// Searches systems; `each` does the climbs of one.
 pub fn through(
-    report: &Report,
+    systems: impl Iterator<Item = System>,
     seed: u64,
-    systems: u64,
     mut each: impl FnMut(&mut Random, &System, &mut Search) -> Result<(), Box<Late>>,
 ) -> Result<Tried, Stop> {
-    let mut drawn = Systems::new(report, seed);
-    // numbers of their own, so that the systems do not depend on how they are searched
-    let mut r = Random::new(!seed);
-    let mut count = Count::default();
-    for _ in 0..systems {
-        let system = drawn.next();
+    let mut r = Random::new(seed);
+    let mut tried = Tried::default();
+    for system in systems {
         let mut search = Search::new(&system.table, &system.bounds);
-        each(&mut r, &system, &mut search).map_err(|late| Stop::Late(system.told(&late)))?;
-        count.add(search.count);
+        each(&mut r, &system, &mut search).map_err(|late| system.told(*late))?;
+        tried.drawn = system.looked_at;
+        tried.searched += 1;
+        tried.count.add(search.count);
     }
-    Ok(Tried { drawn: drawn.drawn, searched: systems, count })
+    Ok(tried)
+}
+
+/// So many climbs towards a later finish of each task.
+pub fn climb_to_each(r: &mut Random, search: &mut Search, climbs: u64, steps: u64) -> Result<(), Box<Late>> {
+    for target in 0..search.largest.len() {
+        for _ in 0..climbs {
+            search.climb(r, target, steps)?;
+        }
+    }
+    Ok(())
 }

@@ -4,17 +4,30 @@
 use crate::analysis::{self, Verdict, UNLIMITED};
 use crate::random::Random;
 use crate::table::{Lock, Table, Task};
+use crate::{cases, listing};
 
 /// How often periods are made longer. A table in which tasks still miss is not searched.
 const LONGER: u64 = 10;
 
-/// A table in which most likely all tasks meet. The analysis here is only to save time: `report` decides.
-pub fn draw(r: &mut Random) -> Table {
-    let shape = *r.pick(&[any, any, held_above, held_below, often_requested]);
-    let mut table = shape(r);
-    let_meet(&mut table);
-    shorten_deadlines(r, &mut table);
-    table
+/// Tables without end from a seed. The analysis here is only to make it likely that all tasks meet: `report` decides.
+pub fn random(seed: u64) -> impl Iterator<Item = Table> {
+    let mut r = Random::new(seed);
+    std::iter::repeat_with(move || {
+        let shape = *r.pick(&[any, any, held_above, held_below, often_requested]);
+        let mut table = shape(&mut r);
+        let_meet(&mut table);
+        shorten_deadlines(&mut r, &mut table);
+        table
+    })
+}
+
+/// Tables made by hand for other reasons, in milliseconds most of them.
+pub fn chosen() -> impl Iterator<Item = Table> {
+    let [story, easier, falls] = [cases::STORY, cases::EASIER, cases::FALLS];
+    let capped = [cases::LONG_ABOVE, cases::LONGER_ABOVE, cases::LONG_LOCK_ABOVE, cases::LONG_LOCK_BELOW, cases::TWO_ABOVE, cases::O_AND_F];
+    let others = [cases::CASE_A, cases::THIRDS, cases::QUEUED, cases::TO_THE_LETTER, include_str!("../../../../examples/board.txt")];
+    let all = [&story[..], &easier, &falls, &capped, &others].concat();
+    all.into_iter().map(|text| listing::read(text.as_bytes()).expect("an accepted listing"))
 }
 
 /// Processors and tasks: mostly more tasks than processors, often few more, since the fewer delay a task, the closer to its bound it comes.

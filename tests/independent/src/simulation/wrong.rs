@@ -2,8 +2,8 @@
 
 use super::climb::{Count, Search};
 use super::printed::Report;
-use super::search::{System, Systems};
-use super::Stop;
+use super::search::{self, System};
+use super::{systems, Stop};
 use crate::analysis::{self, Terms, UNLIMITED};
 use crate::random::Random;
 use crate::table::{Table, LOCKS};
@@ -33,13 +33,10 @@ pub const ALL: [Wrong; 8] = [
 impl Wrong {
     /// In how many systems, and by how many schedules, it is refuted.
     pub fn refuted(&self, report: &Report) -> Result<(u64, Count), Stop> {
-        let mut systems = Systems::new(report, SEED);
-        let mut r = Random::new(!SEED);
+        let mut r = Random::new(SEED);
         let mut count = Count::default();
-        for searched in 1..=SYSTEMS {
-            let system = systems.next();
-            let found = self.refuted_by(&mut r, &system, &mut count)?;
-            if found {
+        for (searched, system) in (1..=SYSTEMS).zip(search::meeting(report, systems::random(SEED))) {
+            if self.refuted_by(&mut r, &system, &mut count)? {
                 return Ok((searched, count));
             }
         }
@@ -54,7 +51,7 @@ impl Wrong {
         let late = smaller.map(|target| search.climb(r, target, STEPS)).find_map(Result::err);
         count.add(search.count);
         match late {
-            Some(late) if late.response > system.bounds[late.task] => Err(Stop::Late(system.told(&late))),
+            Some(late) if late.response > system.bounds[late.task] => Err(system.told(*late)),
             late => Ok(late.is_some()),
         }
     }
