@@ -22,8 +22,8 @@ pub fn draw(r: &mut Random, table: &Table, scenario: &Scenario, finishes: &Finis
     match r.within(0, 9) {
         0 => Some(Change { kernel: draw::kernel(r), ..unchanged }),
         1 => unchanged.packed(r, limits),
-        2 | 3 => unchanged.shifted(r, limits),
-        4 | 5 => unchanged.met(r, limits, scenario, finishes),
+        2 => unchanged.shifted(r, limits),
+        3..=5 => unchanged.met(r, limits, scenario, finishes),
         _ => unchanged.run_differently(r, limits),
     }
 }

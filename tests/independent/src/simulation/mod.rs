@@ -27,7 +27,7 @@ use search::{System, Tried};
 use std::process::ExitCode;
 
 const SEED: u64 = 1;
-const SYSTEMS: usize = 5_000;
+const SYSTEMS: usize = 6_000;
 /// Climbs in each system, and the steps of each.
 const CLIMBS: u64 = 3;
 const STEPS: u64 = 150;

@@ -16,41 +16,43 @@ pub fn text(tried: &Tried, seed: u64, classes: &[Class], picture: &str) -> Strin
     format!(
         "# The bounds beside simulated schedules
 
-No response time above a printed bound was observed: {searched} systems in which every task meets, {schedules} schedules, {jobs} jobs.
+No job was observed to take longer than the bound that `report` prints of its task: {searched} systems in which every task meets, {schedules} schedules, {jobs} jobs.
 
 `measure/schedules {systems} {seed}` writes this page and its picture again, with the same figures.
 
 ## What was simulated
 
-Systems of 1 to 4 processors and 2 to 8 tasks, with up to four locks, drawn at random: some of any kind, some in which a certain term of the demand is likely to count.
-Periods and deadlines are short, so that the bounds are tight. {drawn} were drawn, and {skipped} skipped, since `report` did not say `meets` of every task. The
-bounds are those that `report` prints.
+Systems of 1 to 4 processors and 2 to 8 tasks, with no lock to four, drawn at random: some of any kind, some in which a certain term of the demand is likely to count. Times are
+small and periods about as short as lets every task meet, so that much happens at once. {drawn} were drawn; {skipped} of them were skipped, since `report` did not say `meets` of every
+task.
 
-The model is that of the report HURRAY-TR-090908, sections II and III-A, with Algorithm 1 of section IV, its line 11 always true:
+The model is that of the report HURRAY-TR-090908, sections II and III-A; who runs is Algorithm 1 of its section IV, with line 11 always true:
 
-- jobs of a task are released at least T apart and run one at a time; none exceeds C, N, c or CT, many stay below them, and the requests are anywhere in a job;
+- the jobs of a task are released at least T apart and run one at a time; none exceeds C, N, c or CT, and many stay below them; requests are anywhere in a job;
 - the m ready jobs of the highest effective priority run; a job that waits for a lock gives its processor up and takes no place among them;
-- the holder of a lock inherits the highest priority that waits for it; a preempted holder keeps its lock;
+- the holder of a lock inherits the highest priority that waits for it, and keeps the lock when it is preempted;
 - a free lock is taken by the highest job that is scheduled and asks for it, or is handed to the highest that waits: both were simulated;
-- events at one instant happen in several orders: arrivals before or after ends, the lowest task first or the highest, or as drawn;
+- what happens at one instant happens in several orders: arrivals before or after ends, the lowest task first or the highest, or as drawn;
 - there are no overheads, no jitter and no self-suspension, and locks are not nested.
 
-Each task was the target of {CLIMBS} climbs. A climb starts from jobs that are drawn around a release of the target, and tries {STEPS} changes: of releases, of where requests stand, of
-lengths, of the order of events, of the way of granting. A change is kept if the target's largest response time does not fall. Every job of every task, on the way too, was
-held to the bound of its task.
+Each task was the target of {CLIMBS} climbs. A climb starts from jobs that are drawn around a release of its target, and tries {STEPS} changes: of releases, of lengths, of where
+requests stand, of the order of events, of the way in which a lock is granted. A change is kept if the target's largest response time does not fall. Every job of every task, in
+every schedule on the way, was held to the bound of its task.
 
 ## How close
 
-Observed is the latest that this search found, and not the latest that there is: where it is below the bound, the bound may be too large, or the search may have
-missed a worse schedule. The table cannot tell which. It says how observed compares with the bound, task by task, observed divided by bound; the last columns are the values
-that so many of a hundred tasks do not pass.
+Observed is the largest response time that this search found, and not the largest that there is. Where it is below the bound, the bound may be larger than it need be, or the
+search may have missed a later schedule; these figures do not tell which.
 
-'With locks' are the tasks in whose bound a lock counts: DB or S is not 0, or of a task past the m-th O or L. Without locks a task up to the m-th has C as its bound.
+The table has observed / bound, task by task: its mean, and the values that 10, 25, 50, 75 and 90 of a hundred tasks do not pass. 'With locks' are the tasks in whose bound a lock
+counts: DB or S is not 0, or, of a task past the m-th, O or L. Without locks the bound of a task up to the m-th is its C.
 
 | class | tasks | observed = bound | mean |{heads}
 |---|---:|---:|---:|{rule}
 {rows}
-![The distribution of observed by bound in each class]({picture})
+![For each class, how many tasks come how close to their bounds]({picture})
+
+Each curve says how many tasks of a class come at least so close; where it ends, on the right, both are equal.
 "
     )
 }

@@ -60,7 +60,7 @@ fn hold(r: &mut Random, task: &mut Task, k: usize, ct: u64, requests: u64) {
 
 /// Any locks or none in any task.
 fn any(r: &mut Random) -> Table {
-    let (mut table, longest, locks) = (empty(r), scale(r), *r.pick(&[0, 1, 1, 2, 3]));
+    let (mut table, longest, locks) = (empty(r), scale(r), *r.pick(&[0, 0, 1, 2, 3]));
     for slot in 0..table.n as usize {
         let mut task = task(r, longest);
         for k in 0..locks {
