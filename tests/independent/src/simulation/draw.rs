@@ -73,13 +73,23 @@ fn spread(r: &mut Random, segments: &mut Vec<Segment>, mut outside: u64) {
 pub fn jobs(r: &mut Random, table: &Table, target: usize, start: u64, end: u64) -> Jobs {
     let release = *r.pick(&[at_any_time, at_once, lower_just_before, carried_in]);
     let from_there_on = r.one_in(3);
+    let lower_lock_first = r.one_in(2);
     let each = |(slot, task): (usize, &Task)| {
-        let at = if slot == target { start } else { release(r, task, slot > target, start) };
+        let lower = slot > target;
+        let at = if slot == target { start } else { release(r, task, lower, start) };
         let mut releases = if from_there_on { vec![] } else { earlier(r, task, at) };
         releases.extend(later(r, task, at, end));
-        releases.into_iter().map(|release| Job { release, segments: segments(r, task) }).collect()
+        releases.into_iter().map(|release| Job { release, segments: ordered(segments(r, task), lower && lower_lock_first) }).collect()
     };
     table.used().iter().enumerate().map(each).collect()
+}
+
+/// The same segments, perhaps with the requests before all else.
+fn ordered(mut segments: Vec<Segment>, requests_first: bool) -> Vec<Segment> {
+    if requests_first {
+        segments.sort_by_key(|segment| segment.lock.is_none());
+    }
+    joined(segments)
 }
 
 fn at_any_time(r: &mut Random, task: &Task, _: bool, start: u64) -> u64 {

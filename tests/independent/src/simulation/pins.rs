@@ -1,9 +1,10 @@
 //! Small schedules made by hand, with the finishes that were worked out on paper: what the kernel does about preemption, inheritance, waiting,
 //! granting and the order of events at one instant.
 
-use super::jobs::{free, may_be, request, Job, Segment};
+use super::jobs::{free, may_be, may_run, request, Job, Segment};
 use super::kernel::{Granting, Inheritance, Kernel, Order};
 use super::scenario::Scenario;
+use crate::table::{Lock, Task};
 use crate::{cases, listing};
 
 const HIGHEST_FIRST: Order = Order::Sorted { arrivals_first: false, lowest_first: false };
@@ -38,7 +39,24 @@ fn always(what: &'static str, m: u64, told: Vec<Vec<Told>>) -> Pin {
 pub fn hold() -> usize {
     let all: Vec<Pin> = [assigned(), inherited(), granted(), ordered(), vec![case_a()]].into_iter().flatten().collect();
     all.iter().for_each(Pin::hold);
+    limits();
     all.len()
+}
+
+/// What a job may run, and what not: C is 10, and of lock 1 N is 2, c 3 and CT 5.
+fn limits() {
+    let mut task = Task { t: 10, c: 10, d: 10, ..Task::default() };
+    task.locks[0] = Lock { n: 2, c: 3, ct: 5 };
+    let may = |segments: &[Segment]| may_run(&task, segments);
+    assert!(may(&[request(0, 3), free(5), request(0, 2)]), "all of it");
+    assert!(may(&[free(10)]), "no lock, and all the time outside of locks");
+    assert!(may(&[request(0, 1)]), "little of it");
+    assert!(!may(&[]) && !may(&[free(0)]), "nothing");
+    assert!(!may(&[free(11)]), "more than C");
+    assert!(!may(&[request(0, 1), request(0, 1), request(0, 1)]), "more requests than N");
+    assert!(!may(&[request(0, 4)]), "a request longer than c");
+    assert!(!may(&[request(0, 3), request(0, 3)]), "more than CT");
+    assert!(!may(&[request(1, 1)]), "a lock that is not used");
 }
 
 impl Pin {
