@@ -122,7 +122,7 @@ impl<'a> Audit<'a> {
     /// Each that runs comes on by the length of the interval, and by no more than is left of its segment.
     fn pass(&mut self, interval: &Interval) -> Result<(), String> {
         for task in self.all().filter(|&task| interval.doing[task].runs) {
-            let job = self.pending(task, interval.from).ok_or("nothing to run")?;
+            let job = self.pending(task, interval.from).expect("who runs was seen to be pending");
             let seen = &mut self.tasks[task];
             seen.done += interval.to - interval.from;
             let length = job.segments[seen.segment].length;

@@ -30,25 +30,29 @@ pub fn chosen() -> impl Iterator<Item = Table> {
     all.into_iter().map(|text| listing::read(text.as_bytes()).expect("an accepted listing"))
 }
 
-/// Processors and tasks: mostly more tasks than processors, often few more, since the fewer delay a task, the closer to its bound it comes.
-fn empty(r: &mut Random) -> Table {
+/// Processors and a number of tasks: mostly more tasks than processors, often few more, since the fewer delay a task, the closer to its bound it comes.
+fn size(r: &mut Random) -> (u64, u64) {
     let m = r.within(1, 4);
     let n = match r.within(0, 3) {
         0 => r.within(2, 8),
         1 => r.within(m + 1, 8),
         _ => r.within(m + 1, m + 2),
     };
-    Table { m, n, ..Table::zero() }
+    (m, n)
 }
 
-fn scale(r: &mut Random) -> u64 {
-    *r.pick(&[3, 6, 6, 12, 12, 40, 150, 600])
-}
-
-fn task(r: &mut Random, longest: u64) -> Task {
-    let c = r.within(1, longest);
-    let t = c * r.within(2, 9) + r.within(0, longest);
-    Task { t, c, d: t, ..Task::default() }
+/// A table of one scale. `lock` gives the task in a slot (from 0) its locks.
+fn filled(r: &mut Random, (m, n): (u64, u64), mut lock: impl FnMut(&mut Random, usize, &mut Task)) -> Table {
+    let mut table = Table { m, n, ..Table::zero() };
+    let longest = *r.pick(&[3, 6, 6, 12, 12, 40, 150, 600]);
+    for slot in 0..n as usize {
+        let c = r.within(1, longest);
+        let t = c * r.within(2, 9) + r.within(0, longest);
+        let mut task = Task { t, c, d: t, ..Task::default() };
+        lock(r, slot, &mut task);
+        table.tasks[slot] = task;
+    }
+    table
 }
 
 /// The task holds a lock for so long in all, by up to so many requests.
@@ -58,70 +62,62 @@ fn hold(r: &mut Random, task: &mut Task, k: usize, ct: u64, requests: u64) {
     task.locks[k] = Lock { n, c, ct };
 }
 
+/// Half of the time or more that a task runs.
+fn most_of(r: &mut Random, task: &Task) -> u64 {
+    r.within(task.c.div_ceil(2), task.c)
+}
+
 /// Any locks or none in any task.
 fn any(r: &mut Random) -> Table {
-    let (mut table, longest, locks) = (empty(r), scale(r), *r.pick(&[0, 0, 1, 2, 3]));
-    for slot in 0..table.n as usize {
-        let mut task = task(r, longest);
+    let (size, locks) = (size(r), *r.pick(&[0, 0, 1, 2, 3]));
+    filled(r, size, |r, _, task| {
         for k in 0..locks {
             let left = task.outside_locks();
             if left > 0 && r.one_in(2) {
                 let ct = if r.one_in(4) { left } else { r.within(1, left) };
-                hold(r, &mut task, k, ct, 3);
+                hold(r, task, k, ct, 3);
             }
         }
-        table.tasks[slot] = task;
-    }
-    table
+    })
 }
 
 /// For O: the higher tasks run under locks that the lower ones do not use, most of their time.
 fn held_above(r: &mut Random) -> Table {
-    let (mut table, longest) = (empty(r), scale(r));
-    let locks = *r.pick(&[1, 2, 2, 3]);
-    let last_holder = r.within(1, table.n - 1) as usize;
-    for slot in 0..table.n as usize {
-        let mut task = task(r, longest);
-        if slot < last_holder {
-            let ct = r.within(task.c.div_ceil(2), task.c);
-            hold(r, &mut task, slot % locks, ct, 2);
+    let (m, n) = size(r);
+    let (locks, holders) = (r.within(1, 3) as usize, r.within(1, n - 1) as usize);
+    filled(r, (m, n), |r, slot, task| {
+        if slot < holders {
+            let ct = most_of(r, task);
+            hold(r, task, slot % locks, ct, 2);
         }
-        table.tasks[slot] = task;
-    }
-    table
+    })
 }
 
-/// For L: the lowest tasks hold, for long, locks that the highest use for short, and those between use none of them.
+/// For L: the lowest tasks hold, for long, locks that the highest use for short, and those between use none.
 fn held_below(r: &mut Random) -> Table {
-    let (mut table, longest) = (empty(r), scale(r));
-    let high = r.within(1, table.m.min(table.n - 1)) as usize;
-    let low = table.n as usize - r.within(1, high.min(table.n as usize - high) as u64) as usize;
-    for slot in 0..table.n as usize {
-        let mut task = task(r, longest);
-        if slot < high {
+    let (m, n) = size(r);
+    let high = r.within(1, m.min(n - 1));
+    let low = n - r.within(1, high.min(n - high));
+    filled(r, (m, n), |r, slot, task| {
+        if slot < high as usize {
             let ct = r.within(1, task.c.div_ceil(3));
-            hold(r, &mut task, slot, ct, 1);
-        } else if slot >= low {
-            let ct = r.within(task.c.div_ceil(2), task.c);
-            hold(r, &mut task, slot - low, ct, 2);
+            hold(r, task, slot, ct, 1);
+        } else if slot >= low as usize {
+            let ct = most_of(r, task);
+            hold(r, task, slot - low as usize, ct, 2);
         }
-        table.tasks[slot] = task;
-    }
-    table
+    })
 }
 
 /// For DB and S: one lock, which tasks request several times each.
 fn often_requested(r: &mut Random) -> Table {
-    let (mut table, longest) = (empty(r), scale(r));
-    for slot in 0..table.n as usize {
-        let mut task = task(r, longest);
+    let size = size(r);
+    filled(r, size, |r, _, task| {
         if !r.one_in(3) {
             let ct = r.within(1, task.c);
-            hold(r, &mut task, 0, ct, 4);
+            hold(r, task, 0, ct, 4);
         }
-        table.tasks[slot] = task;
-    }
-    table
+    })
 }
 
 /// Makes the periods and deadlines of the tasks that miss longer, a few times.

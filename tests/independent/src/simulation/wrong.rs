@@ -10,7 +10,7 @@ use crate::table::{Table, LOCKS};
 
 const SEED: u64 = 2;
 /// Each is refuted within so many systems, by climbs of so many steps.
-const SYSTEMS: u64 = 60;
+const SYSTEMS: u64 = 30;
 const STEPS: u64 = 150;
 
 /// What is wrong with it, and its demand for the task at `i` (from 0) by the terms at one length.
@@ -57,7 +57,7 @@ impl Wrong {
     }
 
     /// The wrong bounds of a table in which all tasks meet: so they do by a demand that is nowhere larger.
-    pub fn bounds(&self, table: &Table) -> Vec<u64> {
+    fn bounds(&self, table: &Table) -> Vec<u64> {
         let bound = |i: usize| {
             let demand = |t| (self.demand)(table, i, analysis::terms(table, i, t, analysis::workload));
             analysis::replaced(table.tasks[i].c, table.tasks[i].d, UNLIMITED, demand).bound()
@@ -72,12 +72,9 @@ fn once_a_lock(table: &Table, i: usize) -> u64 {
     (0..LOCKS).filter(|&k| table.tasks[i].locks[k].n > 0).map(longest_below).sum()
 }
 
-fn is_short(table: &Table, i: usize) -> bool {
-    (i as u64) < table.m
-}
-
+/// S is in the quotient, with O, F and L where those are.
 fn s_divided(table: &Table, i: usize, Terms { db, s, o, f, l }: Terms) -> u64 {
-    let others = if is_short(table, i) { 0 } else { o + f + l };
+    let others = if (i as u64) < table.m { 0 } else { o + f + l };
     table.tasks[i].c + db + (s + others).div_ceil(table.m)
 }
 
