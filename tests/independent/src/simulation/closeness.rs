@@ -49,8 +49,12 @@ fn number(word: &str) -> Result<u64, Stop> {
 /// Asked before the simulation, which takes minutes.
 fn can_be_written(path: &str) -> Result<(), Stop> {
     let folder = Path::new(path).parent().filter(|folder| *folder != Path::new("")).unwrap_or(Path::new("."));
-    let bad = || Stop::BadInput(format!("{path}: no such folder"));
-    folder.is_dir().then_some(()).ok_or_else(bad)
+    let fault = match (folder.is_dir(), Path::new(path).is_dir()) {
+        (false, _) => "no such folder",
+        (_, true) => "a folder",
+        _ => return Ok(()),
+    };
+    Err(Stop::BadInput(format!("{path}: {fault}")))
 }
 
 fn put(path: &str, text: &str) -> Result<(), Stop> {

@@ -22,7 +22,7 @@ No job was observed to take longer than the bound that `report` prints of its ta
 
 ## What was simulated
 
-Systems of 1 to 4 processors and 2 to 8 tasks, with no lock to four, drawn at random: some of any kind, some in which a certain term of the demand is likely to count. Times are
+Systems of 1 to 4 processors and 2 to 8 tasks, with up to four locks, drawn at random: some of any kind, some in which a certain term of the demand is likely to count. Times are
 small and periods about as short as lets every task meet, so that much happens at once. {drawn} were drawn; {skipped} of them were skipped, since `report` did not say `meets` of every
 task.
 

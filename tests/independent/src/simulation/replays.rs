@@ -7,25 +7,29 @@ use super::printed::Report;
 use super::scenario::Scenario;
 use crate::{cases, listing};
 
-/// What a right kernel may do at one instant does not matter in these schedules.
-const RIGHT: Kernel = Kernel {
-    granting: Granting::Scheduled,
-    inheritance: Inheritance::Waiting,
-    order: Order::Sorted { arrivals_first: false, lowest_first: false },
-};
-const RIGHT_HANDED: Kernel = Kernel { granting: Granting::Highest, ..RIGHT };
-const FIFO: Kernel = Kernel { granting: Granting::Longest, ..RIGHT };
-const TO_THE_LETTER: Kernel = Kernel { inheritance: Inheritance::WaitingAmongHighest, ..RIGHT };
+const RIGHT: [Way; 2] = [(Granting::Scheduled, Inheritance::Waiting), (Granting::Highest, Inheritance::Waiting)];
+const FIFO: [Way; 1] = [(Granting::Longest, Inheritance::Waiting)];
+const TO_THE_LETTER: [Way; 1] = [(Granting::Scheduled, Inheritance::WaitingAmongHighest)];
+
+/// A kernel but for its order of events at one instant, which does not matter in these schedules: each is replayed in all of these.
+type Way = (Granting, Inheritance);
+const ORDERS: [Order; 5] = [
+    Order::Sorted { arrivals_first: false, lowest_first: false },
+    Order::Sorted { arrivals_first: false, lowest_first: true },
+    Order::Sorted { arrivals_first: true, lowest_first: false },
+    Order::Sorted { arrivals_first: true, lowest_first: true },
+    Order::Drawn(1),
+];
 
 struct Replay {
     listing: &'static str,
     /// The numbers of the tasks that miss.
     misses: &'static [usize],
-    /// The number of the task that is later than its bound, that bound, and its response time under these kernels.
+    /// The number of the task that is later than its bound, that bound, and how long it takes in one of these ways.
     task: usize,
     bound: u64,
     response: u64,
-    kernels: &'static [Kernel],
+    ways: &'static [Way],
     jobs: Jobs,
 }
 
@@ -37,7 +41,7 @@ fn replays() -> Vec<Replay> {
             task: 4,
             bound: 6_000,
             response: 13_000,
-            kernels: &[RIGHT, RIGHT_HANDED],
+            ways: &RIGHT,
             jobs: vec![
                 alike(&[0, 6_000, 12_000, 18_000, 24_000, 30_000], &[free(3_000)]),
                 alike(&[0, 6_000, 12_000, 18_000, 27_000, 33_000], &[free(3_000)]),
@@ -51,7 +55,7 @@ fn replays() -> Vec<Replay> {
             task: 3,
             bound: 10_000,
             response: 10_800,
-            kernels: &[RIGHT, RIGHT_HANDED],
+            ways: &RIGHT,
             jobs: vec![
                 alike(&[10_200, 16_200], &[request(0, 1_000)]),
                 alike(&[10_200, 16_200], &[free(3_000)]),
@@ -66,7 +70,7 @@ fn replays() -> Vec<Replay> {
             task: 2,
             bound: 3_000,
             response: 3_800,
-            kernels: &[RIGHT, RIGHT_HANDED],
+            ways: &RIGHT,
             jobs: vec![
                 vec![job(1_500, &[request(0, 1_000), request(1, 1_000)]), job(7_500, &[request(1, 1_000), request(0, 1_000)])],
                 alike(&[6_200], &[request(1, 1_000), request(1, 1_000)]),
@@ -79,7 +83,7 @@ fn replays() -> Vec<Replay> {
             task: 1,
             bound: 3_000,
             response: 4_800,
-            kernels: &[FIFO],
+            ways: &FIFO,
             jobs: vec![alike(&[200], &[request(0, 1_000)]), alike(&[100], &[request(0, 2_000)]), alike(&[0], &[request(0, 2_000)])],
         },
         Replay {
@@ -88,7 +92,7 @@ fn replays() -> Vec<Replay> {
             task: 2,
             bound: 3_000,
             response: 12_500,
-            kernels: &[TO_THE_LETTER],
+            ways: &TO_THE_LETTER,
             jobs: vec![
                 alike(&[300], &[request(0, 1_000)]),
                 alike(&[300], &[request(1, 1_000)]),
@@ -123,27 +127,28 @@ impl Replay {
         assert_eq!(missing, self.misses, "the tasks that miss in\n{}", self.listing);
         assert_eq!(bounds[self.task - 1], Some(self.bound), "the bound of task {} in\n{}", self.task, self.listing);
         assert!(may_be(&table, &self.jobs), "jobs out of their limits:\n{}", self.listing);
-        for &kernel in self.kernels {
-            let scenario = self.scenario(kernel);
-            assert_eq!(scenario.response(table.m, self.task - 1), self.response, "the response time told of task {} in\n{}", self.task, self.listing);
-            let right = [RIGHT, RIGHT_HANDED].contains(&kernel);
-            assert_eq!(scenario.audited(table.m).is_ok(), right, "{kernel:?}: a right schedule of\n{}", self.listing);
-        }
-        if self.misses.is_empty() {
-            self.meets(RIGHT, table.m, &bounds);
-            self.meets(RIGHT_HANDED, table.m, &bounds);
+        self.scenarios(self.ways).for_each(|scenario| self.as_told(&scenario, table.m));
+        if missing.is_empty() {
+            self.scenarios(&RIGHT).for_each(|scenario| self.in_time(&scenario, table.m, &bounds));
         }
     }
 
-    fn scenario(&self, kernel: Kernel) -> Scenario {
-        Scenario { jobs: self.jobs.clone(), kernel }
+    fn scenarios<'a>(&'a self, ways: &'a [Way]) -> impl Iterator<Item = Scenario> + 'a {
+        let kernels = ways.iter().flat_map(|&(granting, inheritance)| ORDERS.map(|order| Kernel { granting, inheritance, order }));
+        kernels.map(|kernel| Scenario { jobs: self.jobs.clone(), kernel })
     }
 
-    fn meets(&self, kernel: Kernel, m: u64, bounds: &[Option<u64>]) {
-        let scenario = self.scenario(kernel);
-        assert_eq!(scenario.audited(m), Ok(()), "{kernel:?} on\n{}", self.listing);
+    /// The audit agrees if the kernel is a right one, and finds a wrong one out.
+    fn as_told(&self, scenario: &Scenario, m: u64) {
+        let Kernel { granting, inheritance, .. } = scenario.kernel;
+        assert_eq!(scenario.response(m, self.task - 1), self.response, "task {} under {} of\n{}", self.task, scenario.kernel, self.listing);
+        assert_eq!(scenario.audited(m).is_ok(), RIGHT.contains(&(granting, inheritance)), "audited under {} of\n{}", scenario.kernel, self.listing);
+    }
+
+    fn in_time(&self, scenario: &Scenario, m: u64, bounds: &[Option<u64>]) {
+        assert_eq!(scenario.audited(m), Ok(()), "{} of\n{}", scenario.kernel, self.listing);
         for (task, bound) in bounds.iter().enumerate() {
-            assert!(Some(scenario.response(m, task)) <= *bound, "task {} is late under {kernel:?} in\n{}", task + 1, self.listing);
+            assert!(Some(scenario.response(m, task)) <= *bound, "task {} is late under {} of\n{}", task + 1, scenario.kernel, self.listing);
         }
     }
 }
