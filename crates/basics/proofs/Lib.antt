@@ -1,6 +1,6 @@
 -- Each word's laws, stated once.
---   ChoiceLaws       stops, passes, and-true, pick-when, within-in, within-low, within-high, within-true, only-below, only-le
---   SumLaws          sum-none, sum-more, sum-le, sum-rises, sum-part, sum-bound, sum-eq, sum-one, sum-add, sum-some, sum-wider
+--   ChoiceLaws       stops, passes, and-true, pick-when, within-in, within-low, within-high, within-true, only-below, only-le, only-when, only-some
+--   SumLaws          sum-none, sum-more, sum-le, sum-rises, sum-part, sum-bound, sum-eq, sum-one, sum-add, sum-some, sum-wider, sum-found
 --   MaxLaws          max-more, max-bound, max-le, max-rises, max-wider
 --   AllLaws          all-none, all-more, all-at, all-fails, all-hold, all-zero
 --   FirstIndexLaws   first-none, first-more, First, first-is, first-by, first-here, first-eq

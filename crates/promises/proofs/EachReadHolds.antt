@@ -17,9 +17,9 @@ use Rattle.theory.specs.Rounds.{countedFrom}
 use Rattle.theory.specs.Tables.{viewOf}
 use Rattle.promises.specs.NoEasier.{Related}
 use Rattle.promises.specs.NotEmpty.{on, caseA}
-use Rattle.promises.specs.Reads.{unitsRead, Kind, processors, tasks, run, deadline, requests, periodAbove, deadlineAbove, shared, other, free, periodBelow, deadlineBelow, high, longest, SameBut}
-use Rattle.promises.specs.EachRead.{Stays, Tells, TellsMiss, unlocked, apart, together, EachRead}
-use Rattle.promises.proofs.AgreeByTest.{agrees, numbered, isSame, isSameBut, same-by, same-but-by, same-by-first}
+use Rattle.promises.specs.Reads.{unitsRead, FigureKind, processors, tasks, run, deadline, requests, periodAbove, deadlineAbove, shared, other, free, periodBelow, deadlineBelow, high, longest, SameBut}
+use Rattle.promises.specs.EachRead.{Stays, Tells, TellsMiss, unlocked, lockApart, lockShared, EachRead}
+use Rattle.promises.proofs.AgreeByTest.{agreesOn, numbered, isSame, isSameBut, same-by, same-but-by, same-by-first}
 use Rattle.promises.proofs.UnchangedByTest.{unchanged, only-run-by, where-read-by}
 use Rattle.promises.proofs.NotEmptyHolds.{countedAt, moves-by, lost-by}
 use Rattle.promises.proofs.ReadsLaws.{fine-fitting}
@@ -30,7 +30,7 @@ module _ {a b : Table} (i j k : ℕ) (e : tableFault a ≡ Fine) (f : tableFault
       → countedAt a i j ≡ record { verdict = Meets u; rounds = j } → countedAt b i k ≡ record { verdict = Meets u; rounds = k } → Stays a b i u
   stays s l m c d = moves-by j k (record { first = e; second = f; related = same-by _ _ (level i) (fine-fitting a e) s }) l m c d
 
-  module _ (x : Kind) where
+  module _ (x : FigureKind) where
     but : isSameBut (viewOf a) (viewOf b) (level i) (numbered x .0) ≡ true → Related (λ v w. SameBut x v w (level i)) a b
     but s = record { first = e; second = f; related = same-but-by _ _ (level i) (fine-fitting a e) x s }
 
@@ -43,7 +43,7 @@ module _ {a b : Table} (i j k : ℕ) (e : tableFault a ≡ Fine) (f : tableFault
     tells-miss s l m c d = lost-by j k (but s) l m c d
 
 pub each-read : EachRead
-unfolding on allTo sumTo maxTo firstTo firstFault timesInRange timesInOrder timesFault isUnused usedInRange pairInRange totalsFit pairFault pairsFault taskFault tasksFault tableFault uncapped workload jobs ceilDiv ceiling sharedCT otherCT allCT highCT DB S O F L demandWith countedFrom unitsRead agrees numbered unchanged
+unfolding on allTo sumTo maxTo firstTo firstFault timesInRange timesInOrder timesFault isUnused usedInRange pairInRange totalsFit pairFault pairsFault taskFault tasksFault tableFault uncapped workload jobs ceilDiv ceiling sharedCT otherCT allCT highCT DB S O F L demandWith countedFrom unitsRead agreesOn numbered unchanged
 each-read =
     record {
       unread =
@@ -72,9 +72,9 @@ each-read =
           };
       run-below = moves-by 2 2 (record { first = refl; second = refl; related = (lit< tt, only-run-by _ _ (level 1) refl) }) tt tt refl refl;
       begins =
-          moves-by 2 7 (record { first = refl; second = refl; related = where-read-by (viewOf unlocked) (viewOf (on 1 caseA)) (fine-fitting unlocked refl) (level 1) refl }) tt tt refl refl;
+          moves-by 2 7 (record { first = refl; second = refl; related = where-read-by (viewOf unlocked) (viewOf (on 1 caseA)) (fine-fitting unlocked refl) (level 1) refl refl }) tt tt refl refl;
       lifts =
           moves-by 2 7
-          (record { first = refl; second = refl; related = same-by-first (viewOf apart) (viewOf together) (level 1) (fine-fitting apart refl) refl refl })
+          (record { first = refl; second = refl; related = same-by-first (viewOf lockApart) (viewOf lockShared) (level 1) (fine-fitting lockApart refl) refl refl })
           tt tt refl refl;
     }

@@ -15,7 +15,7 @@ use Rattle.table.specs.declared.Resource.{Resource}
 use Rattle.table.specs.Limits.{maxResources}
 use Rattle.theory.specs.View.{View, level, resource, isAbove, overResources, largestBelow, uses, ceiling}
 use Rattle.theory.specs.Demand.{sharedCT, otherCT, allCT, highCT}
-use Rattle.promises.specs.Reads.{Above, processors, tasks, run, deadline, requests, periodAbove, deadlineAbove, shared, other, free, periodBelow, deadlineBelow, high, longest, Agree, SameRead, OnlyRun}
+use Rattle.promises.specs.Reads.{Above, processors, tasks, run, deadline, requests, periodAbove, deadlineAbove, shared, other, free, periodBelow, deadlineBelow, high, longest, AgreeOn, SameRead, OnlyRun}
 
 module _ (j : Level) (v w : View) (o : OnlyRun j v w) (i : ℕ) (hi : i < v .n) (above : Above (level i) j) where
   uses-eq : (l k : ℕ) → l < v .n → k < maxResources → uses w (level l) (resource k) ≡ uses v (level l) (resource k)
@@ -43,7 +43,7 @@ module _ (j : Level) (v w : View) (o : OnlyRun j v w) (i : ℕ) (hi : i < v .n) 
       (max-wider (v .n) (w .n) _ _ (le-of-eq (sym (o .n))) (λ l h. le-of-eq (sym (each l h))))
 
   pub same-above : SameRead v w (level i)
-  unfolding Agree sharedCT otherCT allCT highCT
+  unfolding AgreeOn sharedCT otherCT allCT highCT
   same-above processors = o .cpus
   same-above tasks = o .n
   same-above run = run-eq i hi above

@@ -27,7 +27,7 @@ use Rattle.promises.specs.Demand2.{demandIn, deadlineIn}
 use Rattle.promises.specs.NoEasier.{Related}
 use Rattle.promises.specs.NotEmpty.{on, Moves, Lost}
 use Rattle.promises.specs.Rounds.{PrintsRows}
-use Rattle.promises.specs.Reads.{Above, Reads, unitsRead, Kind, processors, tasks, run, deadline, requests, periodAbove, deadlineAbove, shared, other, free, periodBelow, deadlineBelow, high, longest, Agree, SameRead, SameBut, SameWhereRead, SameByFirst, SameAnswers, OnlyRun, VerdictReads}
+use Rattle.promises.specs.Reads.{Above, Reads, unitsRead, FigureKind, processors, tasks, run, deadline, requests, periodAbove, deadlineAbove, shared, other, free, periodBelow, deadlineBelow, high, longest, AgreeOn, SameRead, SameBut, SameWhereRead, SameByFirst, SameAnswers, OnlyRun, VerdictReads}
 use Rattle.promises.proofs.Demand2Holds.{demand2}
 use Rattle.promises.proofs.ThreeTasks.{some-allowed}
 use Rattle.promises.proofs.RoundsHold.{rounds-hold}
@@ -38,7 +38,7 @@ use Rattle.promises.proofs.EachReadHolds.{each-read}
 
 -- the faults are the same, and so are the rounds, whose demand, deadline and run time are
 same : SameAnswers SameRead
-unfolding boundOf boundFault countedIn Agree
+unfolding boundOf boundFault countedIn AgreeOn
 same a b i r h allowance =
     let q = r .related in
     let demand = demand-same (viewOf a) (viewOf b) (fine-fitting a (r .first)) (level i) q in
@@ -48,7 +48,7 @@ same a b i r h allowance =
 
 printed : (s s' : List ℕ) (a b : Table) (allowance i : ℕ) (row row' : ℕ → Counted) → PrintsRows allowance s a row → PrintsRows allowance s' b row' → i < a .n
     → Related (λ v w. SameRead v w (level i)) a b → row' i ≡ row i
-unfolding Agree
+unfolding AgreeOn
 printed s s' a b allowance i row row' p q h r =
     let e : Known (row' i) ≡ Known (row i) = sym (q .answer i (omega (arith, r .related tasks))) ∙ same a b i r h allowance ∙ p .answer i h in
     cc
@@ -63,7 +63,7 @@ reads-units t i l e h = (read-units (viewOf t) (fine-fitting t e) (level i) l h,
 
 read-in-both : (a b : Table) (i l : ℕ) → Related (λ v w. SameRead v w (level i)) a b → l < a .n
     → Reads (viewOf a) (level i) (level l) exactly-if Reads (viewOf b) (level i) (level l)
-unfolding Agree
+unfolding AgreeOn
 read-in-both a b i l r h =
     let p = reads-units a i l (r .first) h in
     let q = reads-units b i l (r .second) (omega (arith, r .related tasks)) in
@@ -116,7 +116,7 @@ module _ (R : View → View → Level → Type 0) {a b : Table} {i u : ℕ} (h :
       let z : _≡_ {A = ℕ} 0 1 = cc in
       omega arith
 
-needed : (k : Kind) → SameAnswers (SameBut k) → ⊥
+needed : (k : FigureKind) → SameAnswers (SameBut k) → ⊥
 unfolding on
 needed processors = moved (SameBut processors) tt tt (each-read .told .processors-told) refl
 needed tasks = moved (SameBut tasks) tt tt (each-read .told .tasks-told) refl

@@ -17,7 +17,7 @@ use Rattle.theory.specs.Work.{workload, ceilDiv}
 use Rattle.theory.specs.View.{View, level, resource, isAbove, uses}
 use Rattle.theory.specs.Demand.{sharedCT, otherCT, allCT, highCT, DB, loadOf, S, O, F, L, demandWith, demandOf}
 use Rattle.theory.proofs.WorkLaws.{workload-none}
-use Rattle.promises.specs.Reads.{Above, LongForm, Reads, higher, unitsRead, processors, tasks, run, requests, periodAbove, deadlineAbove, shared, other, free, periodBelow, deadlineBelow, high, longest, Agree, SameRead}
+use Rattle.promises.specs.Reads.{Above, LongForm, Reads, higher, unitsDivided, unitsRead, processors, tasks, run, requests, periodAbove, deadlineAbove, shared, other, free, periodBelow, deadlineBelow, high, longest, AgreeOn, SameRead}
 use Rattle.promises.proofs.ReadsLaws.{Fitting, is-above, shared-read, high-read}
 
 module _ (v w : View) (fits : Fitting v) (i : Level) (same : SameRead v w i) (t : ℕ) where
@@ -31,40 +31,40 @@ module _ (v w : View) (fits : Fitting v) (i : Level) (same : SameRead v w i) (t 
       → ((l : ℕ) → l < v .n → p (level l) ≡ true → loadOf workload w t (level l) (y (level l)) ≡ loadOf workload v t (level l) (x (level l)))
       → sumTo (w .n) (λ l. only (p (level l)) (loadOf workload w t (level l) (y (level l))))
       ≡ sumTo (v .n) (λ l. only (p (level l)) (loadOf workload v t (level l) (x (level l))))
-  unfolding Agree
+  unfolding AgreeOn
   part-eq p x y e = rw (same tasks) (sum-eq (v .n) _ _ (λ l h. only-when (p (level l)) _ _ (e l h)))
 
   -- over the tasks above i and below it: what is read of one is the same
   above-eq : (x y : Level → ℕ) → ((l : ℕ) → l < v .n → Above (level l) i → y (level l) ≡ x (level l)) → ((l : ℕ) → l < v .n → Above (level l) i → 1 ≤ x (level l) → Reads v i (level l))
       → sumTo (w .n) (λ l. only (isAbove (level l) i) (loadOf workload w t (level l) (y (level l))))
       ≡ sumTo (v .n) (λ l. only (isAbove (level l) i) (loadOf workload v t (level l) (x (level l))))
-  unfolding Agree
+  unfolding AgreeOn
   above-eq x y e reads =
       part-eq (λ l. isAbove l i) x y (λ l h b.
       let a = is-above (level l) i b in
       load-eq (level l) _ _ (e l h a) (λ s. (same periodAbove l h a (reads l h a s), same deadlineAbove l h a (reads l h a s))))
 
   S-eq : S workload w i t ≡ S workload v i t
-  unfolding S Agree
+  unfolding S AgreeOn
   S-eq = above-eq (sharedCT v i) (sharedCT w i) (same shared) (λ l h a. shared-read v fits i l h a)
 
   DB-eq : DB w i ≡ DB v i
-  unfolding DB Agree
+  unfolding DB AgreeOn
   DB-eq =
       sum-eq maxResources _ _
       (λ k r. rw (same requests k r) (only-when (uses v i (resource k)) _ _ (λ u. rw (same longest k r u))))
 
   module _ (m : LongForm v i) where
     O-eq : O workload w i t ≡ O workload v i t
-    unfolding O Agree
+    unfolding O AgreeOn
     O-eq = above-eq (otherCT v i) (otherCT w i) (same other m) (λ l h a s. higher m a)
 
     F-eq : F workload w i t ≡ F workload v i t
-    unfolding F Agree
+    unfolding F AgreeOn
     F-eq = above-eq (λ l. v .C l - allCT v l) (λ l. w .C l - allCT w l) (same free m) (λ l h a s. higher m a)
 
     L-eq : L workload w i t ≡ L workload v i t
-    unfolding L Agree
+    unfolding L AgreeOn
     L-eq =
         part-eq (isAbove i) (highCT v i) (highCT w i) (λ l h b.
         let a = is-above i (level l) b in
@@ -75,24 +75,20 @@ module _ (v w : View) (fits : Fitting v) (i : Level) (same : SameRead v w i) (t 
   quotient-eq : Dec (i .0 ≤ v .cpus)
       → pick (leb (i .0) (w .cpus)) 0 (ceilDiv (O workload w i t + F workload w i t + L workload w i t) (w .cpus))
       ≡ pick (leb (i .0) (v .cpus)) 0 (ceilDiv (O workload v i t + F workload v i t + L workload v i t) (v .cpus))
-  unfolding Agree
+  unfolding AgreeOn
   quotient-eq (yes h) = rw (same processors, le-leb (i .0) (v .cpus) h)
   quotient-eq (no h) =
       let m : LongForm v i = omega arith in
       ap₂ (λ x y. pick (leb (i .0) y) 0 (ceilDiv x y)) (omega (arith, O-eq m, F-eq m, L-eq m)) (same processors)
 
   pub demand-same : demandOf w i t ≡ demandOf v i t
-  unfolding demandWith Agree
+  unfolding demandWith AgreeOn
   demand-same = omega (arith, same run, DB-eq, S-eq, quotient-eq (decLe (i .0) (v .cpus)))
 
 -- and as many units of each task count
 module _ (v w : View) (i : Level) (same : SameRead v w i) (l : ℕ) (h : l < v .n) where
-  -- those of O, F and L
-  abbrev long : View → ℕ
-  long x = only (isAbove (level l) i) (otherCT x i (level l) + (x .C (level l) - allCT x (level l))) + only (isAbove i (level l)) (highCT x i (level l))
-
-  long-eq : Dec (i .0 ≤ v .cpus) → pick (leb (i .0) (w .cpus)) 0 (long w) ≡ pick (leb (i .0) (v .cpus)) 0 (long v)
-  unfolding Agree
+  long-eq : Dec (i .0 ≤ v .cpus) → pick (leb (i .0) (w .cpus)) 0 (unitsDivided w i (level l)) ≡ pick (leb (i .0) (v .cpus)) 0 (unitsDivided v i (level l))
+  unfolding AgreeOn
   long-eq (yes k) = rw (le-leb (i .0) (v .cpus) k, le-leb (i .0) (w .cpus) (omega (arith, same processors)))
   long-eq (no k) =
       let m : LongForm v i = omega arith in
@@ -101,6 +97,6 @@ module _ (v w : View) (i : Level) (same : SameRead v w i) (l : ℕ) (h : l < v .
       ap₂ (λ x y. pick (leb (i .0) y) 0 x) (ap₂ _+_ above below) (same processors)
 
   pub units-same : unitsRead w i (level l) ≡ unitsRead v i (level l)
-  unfolding unitsRead Agree
+  unfolding unitsRead AgreeOn
   units-same =
       ap₂ _+_ (only-when (isAbove (level l) i) _ _ (λ b. same shared l h (is-above (level l) i b))) (long-eq (decLe (i .0) (v .cpus)))

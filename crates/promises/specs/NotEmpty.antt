@@ -57,7 +57,7 @@ pub record Lost (R : View → View → Type 0) (a b : Table) (i u : ℕ) : Type 
 pub record HarderShown : Type 0 where
   -- a longer request below: task 1 waits longer for it
   pub longer-request : Moves Harder (on 2 caseA) (on 2 (one ∷ two ∷ using1 30_000 6_000 30_000 (aPair 2 1_000 1_500) ∷ [])) 0 3_250 3_500
-  -- more requests: it waits so often that it can miss its deadline
+  -- more requests: it waits so often that no bound up to its deadline is left
   pub oftener : Lost Harder (on 2 caseA) (on 2 (using1 10_000 2_500 10_000 (aPair 20 500 500) ∷ two ∷ three ∷ [])) 0 3_250
   -- fewer processors: task 2 loses the short form
   pub fewer : Moves Harder (on 2 caseA) (on 1 caseA) 1 4_000 14_500

@@ -33,67 +33,68 @@ LongForm v i = v .cpus < i .0
 
 -- Task l's deadline is read by the demand of task i, as README tells it ("What is presumed"): a workload of l stands in it, which puts a carried-in job as late as that deadline.
 pub data Reads (v : View) (i l : Level) : Type 0 where
-  -- of i ≤ m "the higher tasks that share a lock with it";
+  -- of i ≤ m "the higher tasks that share a lock with it" (of i > m they are among the next);
   sharing : Above l i → (k : ℕ) → k < maxResources → uses v i (resource k) ≡ true → uses v l (resource k) ≡ true → Reads v i l
   -- of i > m "all higher tasks,
   higher : LongForm v i → Above l i → Reads v i l
   -- and those below that use a lock whose ceiling is above i"
   lower : LongForm v i → Above i l → (k : ℕ) → k < maxResources → uses v l (resource k) ≡ true → Above (ceiling v (resource k)) i → Reads v i l
 
--- the same by the terms of the demand: the units of task l that count in it, those of S, and for i > m of O, F and L
+-- the same by the terms of the demand: the units of task l that count in it, those of S, and for i > m those of O, F and L
+abbrev pub unitsDivided : View → Level → Level → ℕ
+unitsDivided v i l = only (isAbove l i) (otherCT v i l + (v .C l - allCT v l)) + only (isAbove i l) (highCT v i l)
+
 unfoldable pub unitsRead : View → Level → Level → ℕ
-unitsRead v i l =
-    only (isAbove l i) (sharedCT v i l)
-    + pick (leb (i .0) (v .cpus)) 0 (only (isAbove l i) (otherCT v i l + (v .C l - allCT v l)) + only (isAbove i l) (highCT v i l))
+unitsRead v i l = only (isAbove l i) (sharedCT v i l) + pick (leb (i .0) (v .cpus)) 0 (unitsDivided v i l)
 
 -- ---- which figures
 
-pub data Kind : Type 0 where
+pub data FigureKind : Type 0 where
   -- m and n
-  processors : Kind
-  tasks : Kind
+  processors : FigureKind
+  tasks : FigureKind
   -- of i itself C, D, and N of each lock
-  run : Kind
-  deadline : Kind
-  requests : Kind
+  run : FigureKind
+  deadline : FigureKind
+  requests : FigureKind
   -- above i T, D and the CT on i's locks, and for i > m also the other CT, and C less all CT
-  periodAbove : Kind
-  deadlineAbove : Kind
-  shared : Kind
-  other : Kind
-  free : Kind
+  periodAbove : FigureKind
+  deadlineAbove : FigureKind
+  shared : FigureKind
+  other : FigureKind
+  free : FigureKind
   -- below i, for i > m, T, D and the CT on locks whose ceiling is above i
-  periodBelow : Kind
-  deadlineBelow : Kind
-  high : Kind
+  periodBelow : FigureKind
+  deadlineBelow : FigureKind
+  high : FigureKind
   -- for each of i's locks the largest c below i
-  longest : Kind
+  longest : FigureKind
 
 -- Two tables, v the first and w the second, agree on the figures of a kind, as the demand of task i has them. T and D are asked of the tasks alone that i reads; which these are is the same in both
 -- where all kinds agree (`read-in-both`). What is counted on locks with a ceiling above i is counted in each table by its own ceilings.
-unfoldable pub Agree : View → View → Level → Kind → Type 0
-Agree v w i processors = w .cpus ≡ v .cpus
-Agree v w i tasks = w .n ≡ v .n
-Agree v w i run = w .C i ≡ v .C i
-Agree v w i deadline = w .D i ≡ v .D i
-Agree v w i requests = (k : ℕ) → k < maxResources → w .N i (resource k) ≡ v .N i (resource k)
-Agree v w i periodAbove = eachTask v (λ l. Above l i → Reads v i l → w .T l ≡ v .T l)
-Agree v w i deadlineAbove = eachTask v (λ l. Above l i → Reads v i l → w .D l ≡ v .D l)
-Agree v w i shared = eachTask v (λ l. Above l i → sharedCT w i l ≡ sharedCT v i l)
-Agree v w i other = LongForm v i → eachTask v (λ l. Above l i → otherCT w i l ≡ otherCT v i l)
-Agree v w i free = LongForm v i → eachTask v (λ l. Above l i → w .C l - allCT w l ≡ v .C l - allCT v l)
-Agree v w i periodBelow = eachTask v (λ l. Above i l → Reads v i l → w .T l ≡ v .T l)
-Agree v w i deadlineBelow = eachTask v (λ l. Above i l → Reads v i l → w .D l ≡ v .D l)
-Agree v w i high = LongForm v i → eachTask v (λ l. Above i l → highCT w i l ≡ highCT v i l)
-Agree v w i longest =
+unfoldable pub AgreeOn : View → View → Level → FigureKind → Type 0
+AgreeOn v w i processors = w .cpus ≡ v .cpus
+AgreeOn v w i tasks = w .n ≡ v .n
+AgreeOn v w i run = w .C i ≡ v .C i
+AgreeOn v w i deadline = w .D i ≡ v .D i
+AgreeOn v w i requests = (k : ℕ) → k < maxResources → w .N i (resource k) ≡ v .N i (resource k)
+AgreeOn v w i periodAbove = eachTask v (λ l. Above l i → Reads v i l → w .T l ≡ v .T l)
+AgreeOn v w i deadlineAbove = eachTask v (λ l. Above l i → Reads v i l → w .D l ≡ v .D l)
+AgreeOn v w i shared = eachTask v (λ l. Above l i → sharedCT w i l ≡ sharedCT v i l)
+AgreeOn v w i other = LongForm v i → eachTask v (λ l. Above l i → otherCT w i l ≡ otherCT v i l)
+AgreeOn v w i free = LongForm v i → eachTask v (λ l. Above l i → w .C l - allCT w l ≡ v .C l - allCT v l)
+AgreeOn v w i periodBelow = eachTask v (λ l. Above i l → Reads v i l → w .T l ≡ v .T l)
+AgreeOn v w i deadlineBelow = eachTask v (λ l. Above i l → Reads v i l → w .D l ≡ v .D l)
+AgreeOn v w i high = LongForm v i → eachTask v (λ l. Above i l → highCT w i l ≡ highCT v i l)
+AgreeOn v w i longest =
     (k : ℕ) → k < maxResources → uses v i (resource k) ≡ true → largestBelow w i (λ l. w .c l (resource k)) ≡ largestBelow v i (λ l. v .c l (resource k))
 
 -- what the demand of i has of two tables is the same; and all of it but one kind
 abbrev pub SameRead : View → View → Level → Type 0
-SameRead v w i = (k : Kind) → Agree v w i k
+SameRead v w i = (k : FigureKind) → AgreeOn v w i k
 
-abbrev pub SameBut : Kind → View → View → Level → Type 0
-SameBut k v w i = (j : Kind) → (j ≡ k → ⊥) → Agree v w i j
+abbrev pub SameBut : FigureKind → View → View → Level → Type 0
+SameBut k v w i = (j : FigureKind) → (j ≡ k → ⊥) → AgreeOn v w i j
 
 -- ---- the promise
 
@@ -117,12 +118,12 @@ pub record Unchanged (rest run : Level → Type 0) (v w : View) : Type 0 where
 abbrev pub OnlyRun : Level → View → View → Type 0
 OnlyRun j = Unchanged (λ l. Unit) (λ l. l ≡ j → ⊥)
 
--- w is v as far as task i and the tasks go that i reads in v
+-- w is v as far as task i and the tasks go that i reads in v, and in the largest c below it
 abbrev pub SameWhereRead : View → View → Level → Type 0
-SameWhereRead v w i = let named : Level → Type 0 = λ l. (l ≡ i) ⊎ Reads v i l in Unchanged named named v w
+SameWhereRead v w i = let named : Level → Type 0 = λ l. (l ≡ i) ⊎ Reads v i l in Unchanged named named v w × AgreeOn v w i longest
 
 -- all kinds but `high`, and in its place the CT on locks whose ceiling in v is above i, of both tables
-abbrev highBy : View → View → Level → Level → ℕ
+abbrev pub highBy : View → View → Level → Level → ℕ
 highBy v x i l = overResources (λ k. only (isAbove (ceiling v k) i) (x .CT l k))
 
 abbrev pub SameByFirst : View → View → Level → Type 0
@@ -136,8 +137,8 @@ pub record VerdictReads : Type 0 where
   -- in particular "a longer C of a task, all else the same, changes nothing for the tasks above it"; nor does a shorter one
   pub run-below : (j : Level) → SameAnswers (λ v w i. Above i j × OnlyRun j v w)
   -- no kind can be left out;
-  pub needed : (k : Kind) → SameAnswers (SameBut k) → ⊥
-  -- nor is it enough that the second is the first as far as the tasks go that are read in the first: another task may begin to be read
+  pub needed : (k : FigureKind) → SameAnswers (SameBut k) → ⊥
+  -- nor is it enough that the second is the first as far as the tasks go that are read in the first, and in the largest c: another task may begin to be read
   pub not-enough : SameAnswers SameWhereRead → ⊥
   -- nor can the ceilings of the first be taken for both
   pub own-ceilings : SameAnswers SameByFirst → ⊥

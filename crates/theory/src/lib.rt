@@ -1,6 +1,6 @@
 // No functions: the analysis as mathematics stands in specs/, and its laws in proofs/.
 
-// The verdict on a task: its bound in microseconds; that it can miss its deadline; or that the rounds allowed ran out before either was known.
+// The verdict on a task: its bound in microseconds; that no bound up to its deadline was found; or that the rounds allowed ran out before either was known.
 pub enum Verdict {
     Meets(u32),
     Misses,
