@@ -32,12 +32,12 @@ pub fn fault(m: u64, jobs: &Jobs, finishes: &Finishes, intervals: &[Interval]) -
         before = Some(interval);
     }
     let seen: Vec<&Vec<u64>> = audit.tasks.iter().map(|task| &task.finishes).collect();
-    holds(seen == finishes.iter().collect::<Vec<_>>(), || format!("jobs were seen to finish at {seen:?}, not {finishes:?}"))?;
-    holds(jobs.iter().zip(seen).all(|(jobs, seen)| jobs.len() == seen.len()), || "a job is not finished".into())
+    rule(seen == finishes.iter().collect::<Vec<_>>(), || format!("jobs were seen to finish at {seen:?}, not {finishes:?}"))?;
+    rule(jobs.iter().zip(seen).all(|(jobs, seen)| jobs.len() == seen.len()), || "a job is not finished".into())
 }
 
-fn holds(rule: bool, what: impl Fn() -> String) -> Result<(), String> {
-    if rule { Ok(()) } else { Err(what()) }
+fn rule(kept: bool, what: impl Fn() -> String) -> Result<(), String> {
+    if kept { Ok(()) } else { Err(what()) }
 }
 
 impl<'a> Audit<'a> {
@@ -61,9 +61,9 @@ impl<'a> Audit<'a> {
 
     /// Each interval begins where the one before ended, and none goes on when a job arrives.
     fn nothing_skipped(&self, end: u64, interval: &Interval) -> Result<(), String> {
-        holds(interval.from == end, || "time was skipped".into())?;
+        rule(interval.from == end, || "time was skipped".into())?;
         let arrives = |job: &Job| interval.from < job.release && job.release < interval.to;
-        holds(interval.from < interval.to && !self.jobs.iter().flatten().any(arrives), || "an event was skipped".into())
+        rule(interval.from < interval.to && !self.jobs.iter().flatten().any(arrives), || "an event was skipped".into())
     }
 
     /// A lock has one holder, who has come to its request; who waits has come to a request of a lock that another holds.
@@ -72,26 +72,36 @@ impl<'a> Audit<'a> {
             let Doing { waits, holds: held, .. } = interval.doing[task];
             let wanted = self.wants(task, interval.from);
             let other_holds = self.all().any(|other| other != task && wanted.is_some() && interval.doing[other].holds == wanted);
-            holds(held.is_none() || held == wanted, || format!("task {} holds a lock out of its request", task + 1))?;
-            holds(held.is_none() || !other_holds, || format!("task {} holds a lock that another holds", task + 1))?;
-            holds(!waits || held.is_none() && other_holds, || format!("task {} waits for nobody", task + 1))?;
-            holds(held.is_some() || wanted.is_none() || self.tasks[task].done == 0, || format!("task {} lost its lock", task + 1))?;
+            rule(held.is_none() || held == wanted, || format!("task {} holds a lock out of its request", task + 1))?;
+            rule(held.is_none() || !other_holds, || format!("task {} holds a lock that another holds", task + 1))?;
+            rule(!waits || held.is_none() && other_holds, || format!("task {} waits for nobody", task + 1))?;
+            rule(held.is_some() || wanted.is_none() || self.tasks[task].done == 0, || format!("task {} lost its lock", task + 1))?;
         }
         Ok(())
     }
 
-    /// Who has a lock keeps it until its request ends. Who gets one is no lower than those that waited for it.
+    /// Who has a lock keeps it until its request ends. Who gets one is no lower than those that waited for it; it waited itself, or has a processor, or had
+    /// one at this instant.
     fn handed_over(&self, before: &Interval, interval: &Interval) -> Result<(), String> {
         for task in self.all() {
             let (had, has) = (before.doing[task].holds, interval.doing[task].holds);
             // a request of which nothing is done has ended, and is the next one, only if its task ran
             let keeps = had.is_some() && (self.tasks[task].done > 0 || !before.doing[task].runs);
-            holds(!keeps || had == has, || format!("task {} did not keep its lock", task + 1))?;
+            rule(!keeps || had == has, || format!("task {} did not keep its lock", task + 1))?;
             let waited = |other: usize| before.doing[other].waits && self.wants(other, before.from) == has;
             let gets = has.is_some() && !keeps;
-            holds(!gets || !(0..task).any(waited), || format!("task {} got a lock that a higher one waited for", task + 1))?;
+            rule(!gets || !(0..task).any(waited), || format!("task {} got a lock that a higher one waited for", task + 1))?;
+            let scheduled = waited(task) || interval.doing[task].runs || self.some_came(before, interval);
+            rule(!gets || scheduled, || format!("task {} got a lock without a processor", task + 1))?;
         }
         Ok(())
+    }
+
+    /// Whether one that runs may have taken a processor away just now: it did not run, was in another segment, or was raised.
+    fn some_came(&self, before: &Interval, interval: &Interval) -> bool {
+        let raised = |task: usize| self.effective(task, interval) < self.effective(task, before);
+        let came = |task: usize| !before.doing[task].runs || self.tasks[task].done == 0 || raised(task);
+        self.all().any(|task| interval.doing[task].runs && came(task))
     }
 
     /// The highest priority of a task and of those that wait for the lock that it holds.
@@ -105,16 +115,16 @@ impl<'a> Audit<'a> {
     /// has m above it that run.
     fn who_runs(&self, interval: &Interval) -> Result<(), String> {
         let running: Vec<usize> = self.all().filter(|&task| interval.doing[task].runs).collect();
-        holds(running.len() as u64 <= self.m, || "more run than there are processors".into())?;
+        rule(running.len() as u64 <= self.m, || "more run than there are processors".into())?;
         for task in self.all() {
             let Doing { runs, waits, holds: held } = interval.doing[task];
             let segment = self.segment(task, interval.from);
             let runnable = segment.is_some_and(|segment| segment.lock == held) && !waits;
-            holds(!runs || runnable, || format!("task {} runs and may not", task + 1))?;
+            rule(!runs || runnable, || format!("task {} runs and may not", task + 1))?;
             let own = self.effective(task, interval);
             let above = running.iter().filter(|&&other| self.effective(other, interval) <= own).count();
             let left_out = segment.is_some() && !runs && !waits;
-            holds(!left_out || above as u64 == self.m, || format!("task {} does not run and could", task + 1))?;
+            rule(!left_out || above as u64 == self.m, || format!("task {} does not run and could", task + 1))?;
         }
         Ok(())
     }
@@ -126,7 +136,7 @@ impl<'a> Audit<'a> {
             let seen = &mut self.tasks[task];
             seen.done += interval.to - interval.from;
             let length = job.segments[seen.segment].length;
-            holds(seen.done <= length, || format!("task {} runs past a segment", task + 1))?;
+            rule(seen.done <= length, || format!("task {} runs past a segment", task + 1))?;
             if seen.done == length {
                 (seen.segment, seen.done) = (seen.segment + 1, 0);
             }

@@ -41,13 +41,13 @@ impl<'a> Search<'a> {
     /// One climb of so many steps from a start of its own. Where it starts and where it ends, the schedule is audited.
     pub fn climb(&mut self, r: &mut Random, target: usize, steps: u64) -> Result<(), Box<Late>> {
         let mut scenario = self.start(r, target);
-        let mut finishes = self.hold(&scenario)?;
+        let mut finishes = self.within_bounds(&scenario)?;
         self.audit(&scenario);
         let mut reached = largest(&scenario.jobs[target], &finishes[target]);
         for _ in 0..steps {
             let Some(mut change) = change::draw(r, self.table, &scenario, &finishes) else { continue };
             change.swap(&mut scenario);
-            let after = self.hold(&scenario)?;
+            let after = self.within_bounds(&scenario)?;
             let response = largest(&scenario.jobs[target], &after[target]);
             if response < reached {
                 change.swap(&mut scenario);
@@ -68,8 +68,8 @@ impl<'a> Search<'a> {
         Scenario { jobs, kernel: draw::kernel(r) }
     }
 
-    /// Simulates, and holds every job to its bound.
-    fn hold(&mut self, scenario: &Scenario) -> Result<Finishes, Box<Late>> {
+    /// Simulates, and holds every job to its bound. If one is late, the schedule is audited: it must be one of the model.
+    fn within_bounds(&mut self, scenario: &Scenario) -> Result<Finishes, Box<Late>> {
         assert!(jobs::may_be(self.table, &scenario.jobs), "jobs out of their limits:\n{}{}", listing::write(self.table), scenario.text());
         let finishes = scenario.kernel.finishes(self.table.m, &scenario.jobs);
         self.count.schedules += 1;
@@ -77,6 +77,7 @@ impl<'a> Search<'a> {
             self.count.jobs += jobs.len() as u64;
             let response = largest(jobs, finishes);
             if response > self.bounds[task] {
+                self.audit(scenario);
                 return Err(Box::new(Late { scenario: scenario.clone(), task, response }));
             }
             self.largest[task] = self.largest[task].max(response);

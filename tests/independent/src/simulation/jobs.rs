@@ -16,6 +16,12 @@ pub struct Job {
     pub segments: Vec<Segment>,
 }
 
+impl Job {
+    pub fn new(release: u64, segments: &[Segment]) -> Job {
+        Job { release, segments: segments.to_vec() }
+    }
+}
+
 /// The jobs of each task, in the order of their releases.
 pub type Jobs = Vec<Vec<Job>>;
 

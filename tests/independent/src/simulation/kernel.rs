@@ -1,5 +1,6 @@
 //! Who runs when: Algorithm 1 of the report's section IV with line 11 always true, event by event, in whole microseconds. A job that waits for a
-//! lock gives its processor up and takes no place among those that run. Nothing here knows of workloads or bounds.
+//! lock gives its processor up and takes no place among those that run. Of several that wait for one lock its holder inherits the highest, as section III-A has
+//! it; line 9 to the letter would leave it the lowest. Nothing here knows of workloads or bounds.
 
 use super::jobs::{Job, Jobs, Segment};
 use crate::random::Random;
@@ -34,6 +35,15 @@ pub enum Order {
     /// Drawn anew for each instant.
     Drawn(u64),
 }
+
+/// One of each kind, for schedules made by hand.
+pub const ORDERS: [Order; 5] = [
+    Order::Sorted { arrivals_first: false, lowest_first: false },
+    Order::Sorted { arrivals_first: false, lowest_first: true },
+    Order::Sorted { arrivals_first: true, lowest_first: false },
+    Order::Sorted { arrivals_first: true, lowest_first: true },
+    Order::Drawn(1),
+];
 
 #[derive(Clone, Copy, PartialEq, Eq, Debug)]
 pub struct Kernel {

@@ -74,7 +74,7 @@ fn ended(result: Result<(), Stop>) -> ExitCode {
 
 fn try_all(path: &str) -> Result<(), Stop> {
     let report = Report::new(path)?;
-    println!("schedules by hand: {} as worked out on paper, {} replayed as told", pins::hold(), replays::hold(&report));
+    println!("schedules by hand: {} as worked out on paper, {} replayed as told", pins::hold(), replays::hold(&report)?);
     println!("schedules spoiled on purpose: {} found out by the audit", spoiled::hold());
     println!("wrong analyses refuted, each by a job that is later than its bound");
     for wrong in &wrong::ALL {

@@ -26,7 +26,8 @@ Systems of 1 to 4 processors and 2 to 8 tasks, with up to four locks, drawn at r
 small and periods about as short as lets every task meet, so that much happens at once. {drawn} were drawn; {skipped} of them were skipped, since `report` did not say `meets` of every
 task.
 
-The model is that of the report HURRAY-TR-090908, sections II and III-A; who runs is Algorithm 1 of its section IV, with line 11 always true:
+The model is that of the report HURRAY-TR-090908, sections II and III-A, but that a job which waits does not count among the m of the highest priority (condition 1 of \"Job blocking\"); who
+runs is Algorithm 1 of its section IV, with line 11 always true:
 
 - the jobs of a task are released at least T apart and run one at a time; none exceeds C, N, c or CT, and many stay below them; requests are anywhere in a job;
 - the m ready jobs of the highest effective priority run; a job that waits for a lock gives its processor up and takes no place among them;

@@ -2,7 +2,7 @@
 //! granting and the order of events at one instant.
 
 use super::jobs::{free, may_be, may_run, request, Job, Segment};
-use super::kernel::{Granting, Inheritance, Kernel, Order};
+use super::kernel::{Granting, Inheritance, Kernel, Order, ORDERS};
 use super::scenario::Scenario;
 use crate::table::{Lock, Task};
 use crate::{cases, listing};
@@ -10,7 +10,6 @@ use crate::{cases, listing};
 const HIGHEST_FIRST: Order = Order::Sorted { arrivals_first: false, lowest_first: false };
 const LOWEST_FIRST: Order = Order::Sorted { arrivals_first: false, lowest_first: true };
 const ARRIVALS_FIRST: Order = Order::Sorted { arrivals_first: true, lowest_first: false };
-const ANY_ORDER: &[Order] = &[HIGHEST_FIRST, LOWEST_FIRST, ARRIVALS_FIRST, Order::Drawn(1)];
 const BOTH_WAYS: &[Granting] = &[Granting::Scheduled, Granting::Highest];
 
 /// A job, and when it finishes.
@@ -27,12 +26,12 @@ struct Pin {
 
 /// A job that is released, runs and finishes as said.
 fn job(release: u64, segments: &[Segment], finish: u64) -> Told {
-    (Job { release, segments: segments.to_vec() }, finish)
+    (Job::new(release, segments), finish)
 }
 
 /// With any kernel of the model the same comes out.
 fn always(what: &'static str, m: u64, told: Vec<Vec<Told>>) -> Pin {
-    Pin { what, m, granting: BOTH_WAYS, orders: ANY_ORDER, told }
+    Pin { what, m, granting: BOTH_WAYS, orders: &ORDERS, told }
 }
 
 /// Says how many there are, if each comes out as worked out.

@@ -22,13 +22,13 @@ impl Report<'_> {
     }
 
     /// The bound of each task, none for one that misses.
-    pub fn bounds(&self, listing: &str) -> Vec<Option<u64>> {
-        self.printed(listing).unwrap_or_else(|| panic!("{}: no report on\n{listing}", self.path))
+    pub fn bounds(&self, listing: &str) -> Result<Vec<Option<u64>>, Stop> {
+        self.printed(listing).ok_or_else(|| Stop::BadInput(format!("{}: no report on {listing:?}", self.path)))
     }
 
     /// The same if all meet.
-    pub fn all_meet(&self, listing: &str) -> Option<Vec<u64>> {
-        self.bounds(listing).into_iter().collect()
+    pub fn all_meet(&self, listing: &str) -> Result<Option<Vec<u64>>, Stop> {
+        self.bounds(listing).map(|bounds| bounds.into_iter().collect())
     }
 
     fn printed(&self, listing: &str) -> Option<Vec<Option<u64>>> {

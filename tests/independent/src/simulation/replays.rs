@@ -2,24 +2,18 @@
 //! is replayed from its releases and segments, and takes exactly as long as told. With a right kernel no job of the last two is late.
 
 use super::jobs::{free, may_be, request, Job, Jobs, Segment};
-use super::kernel::{Granting, Inheritance, Kernel, Order};
+use super::kernel::{Granting, Inheritance, Kernel, ORDERS};
 use super::printed::Report;
 use super::scenario::Scenario;
+use super::Stop;
 use crate::{cases, listing};
 
 const RIGHT: [Way; 2] = [(Granting::Scheduled, Inheritance::Waiting), (Granting::Highest, Inheritance::Waiting)];
 const FIFO: [Way; 1] = [(Granting::Longest, Inheritance::Waiting)];
 const TO_THE_LETTER: [Way; 1] = [(Granting::Scheduled, Inheritance::WaitingAmongHighest)];
 
-/// A kernel but for its order of events at one instant, which does not matter in these schedules: each is replayed in all of these.
+/// A kernel but for its order of events at one instant, which does not matter in these schedules: each is replayed in several.
 type Way = (Granting, Inheritance);
-const ORDERS: [Order; 5] = [
-    Order::Sorted { arrivals_first: false, lowest_first: false },
-    Order::Sorted { arrivals_first: false, lowest_first: true },
-    Order::Sorted { arrivals_first: true, lowest_first: false },
-    Order::Sorted { arrivals_first: true, lowest_first: true },
-    Order::Drawn(1),
-];
 
 struct Replay {
     listing: &'static str,
@@ -60,7 +54,7 @@ fn replays() -> Vec<Replay> {
                 alike(&[10_200, 16_200], &[request(0, 1_000)]),
                 alike(&[10_200, 16_200], &[free(3_000)]),
                 alike(&[10_200], &[free(5_000)]),
-                vec![job(5_100, &[request(1, 1_000), request(0, 2_000)]), job(16_100, &[request(0, 2_000), request(1, 1_000)])],
+                vec![Job::new(5_100, &[request(1, 1_000), request(0, 2_000)]), Job::new(16_100, &[request(0, 2_000), request(1, 1_000)])],
                 alike(&[4_100], &[request(1, 5_000)]),
             ],
         },
@@ -72,7 +66,7 @@ fn replays() -> Vec<Replay> {
             response: 3_800,
             ways: &RIGHT,
             jobs: vec![
-                vec![job(1_500, &[request(0, 1_000), request(1, 1_000)]), job(7_500, &[request(1, 1_000), request(0, 1_000)])],
+                vec![Job::new(1_500, &[request(0, 1_000), request(1, 1_000)]), Job::new(7_500, &[request(1, 1_000), request(0, 1_000)])],
                 alike(&[6_200], &[request(1, 1_000), request(1, 1_000)]),
                 alike(&[0], &[request(0, 5_000)]),
             ],
@@ -104,25 +98,21 @@ fn replays() -> Vec<Replay> {
     ]
 }
 
-fn job(release: u64, segments: &[Segment]) -> Job {
-    Job { release, segments: segments.to_vec() }
-}
-
 fn alike(releases: &[u64], segments: &[Segment]) -> Vec<Job> {
-    releases.iter().map(|&release| job(release, segments)).collect()
+    releases.iter().map(|&release| Job::new(release, segments)).collect()
 }
 
 /// Says how many there are, if each comes out as told.
-pub fn hold(report: &Report) -> usize {
+pub fn hold(report: &Report) -> Result<usize, Stop> {
     let all = replays();
-    all.iter().for_each(|replay| replay.hold(report));
-    all.len()
+    all.iter().try_for_each(|replay| replay.hold(report))?;
+    Ok(all.len())
 }
 
 impl Replay {
-    fn hold(&self, report: &Report) {
+    fn hold(&self, report: &Report) -> Result<(), Stop> {
         let table = listing::read(self.listing.as_bytes()).expect("an accepted listing");
-        let bounds = report.bounds(self.listing);
+        let bounds = report.bounds(self.listing)?;
         let missing: Vec<usize> = (1..).zip(&bounds).filter(|(_, bound)| bound.is_none()).map(|(number, _)| number).collect();
         assert_eq!(missing, self.misses, "the tasks that miss in\n{}", self.listing);
         assert_eq!(bounds[self.task - 1], Some(self.bound), "the bound of task {} in\n{}", self.task, self.listing);
@@ -131,6 +121,7 @@ impl Replay {
         if missing.is_empty() {
             self.scenarios(&RIGHT).for_each(|scenario| self.in_time(&scenario, table.m, &bounds));
         }
+        Ok(())
     }
 
     fn scenarios<'a>(&'a self, ways: &'a [Way]) -> impl Iterator<Item = Scenario> + 'a {

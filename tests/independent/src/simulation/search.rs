@@ -2,7 +2,7 @@
 
 use super::climb::{Count, Search};
 use super::printed::Report;
-use super::scenario::Late;
+use super::scenario::{Late, Scenario};
 use super::Stop;
 use crate::listing;
 use crate::random::Random;
@@ -24,10 +24,10 @@ pub struct Tried {
 }
 
 /// The systems among these tables; the others are skipped.
-pub fn meeting<'a>(report: &'a Report, tables: impl Iterator<Item = Table> + 'a) -> impl Iterator<Item = System> + 'a {
+pub fn meeting<'a>(report: &'a Report, tables: impl Iterator<Item = Table> + 'a) -> impl Iterator<Item = Result<System, Stop>> + 'a {
     (1..).zip(tables).filter_map(|(looked_at, table)| {
-        let bounds = report.all_meet(&listing::write(&table))?;
-        Some(System { table, bounds, looked_at })
+        let bounds = report.all_meet(&listing::write(&table)).transpose()?;
+        Some(bounds.map(|bounds| System { table, bounds, looked_at }))
     })
 }
 
@@ -35,6 +35,13 @@ impl System {
     /// The tasks that something can delay.
     pub fn delayed(&self) -> Vec<usize> {
         (0..self.bounds.len()).filter(|&task| self.bounds[task] > self.table.tasks[task].c).collect()
+    }
+
+    /// The first task that is later than its bound in a scenario, if one is.
+    pub fn late_in(&self, scenario: Scenario) -> Option<Late> {
+        let responses = (0..self.bounds.len()).map(|task| (task, scenario.response(self.table.m, task)));
+        let (task, response) = { responses }.find(|&(task, response)| response > self.bounds[task])?;
+        Some(Late { scenario, task, response })
     }
 
     /// A job that is later than its bound, for people to read.
@@ -48,13 +55,14 @@ impl System {
 
 /// Searches systems; `each` does the climbs of one.
 pub fn through(
-    systems: impl Iterator<Item = System>,
+    systems: impl Iterator<Item = Result<System, Stop>>,
     seed: u64,
     mut each: impl FnMut(&mut Random, &System, &mut Search) -> Result<(), Box<Late>>,
 ) -> Result<Tried, Stop> {
     let mut r = Random::new(seed);
     let mut tried = Tried::default();
     for system in systems {
+        let system = system?;
         let mut search = Search::new(&system.table, &system.bounds);
         each(&mut r, &system, &mut search).map_err(|late| system.told(*late))?;
         tried.drawn = system.looked_at;

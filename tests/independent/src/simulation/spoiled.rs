@@ -1,21 +1,27 @@
 //! Schedules spoiled on purpose: the audit finds what is wrong with each.
 
 use super::audit;
-use super::jobs::{free, request, Job, Jobs, Segment};
+use super::jobs::{free, request, Job, Jobs};
 use super::kernel::{Finishes, Granting, Inheritance, Interval, Kernel, Order};
 
 /// On one processor. Task 1 waits for task 3's lock from 2 to 4, has it to 5, and task 2 runs from then to 10.
 fn inherited() -> Jobs {
-    vec![vec![job(2, &[request(0, 1)])], vec![job(2, &[free(5)])], vec![job(0, &[request(0, 4)])]]
+    vec![vec![Job::new(2, &[request(0, 1)])], vec![Job::new(2, &[free(5)])], vec![Job::new(0, &[request(0, 4)])]]
 }
 
 /// On one processor. Task 2 waits for task 3's lock, which it is handed at 3, when task 1 has the processor; it has it to 5 without running.
 fn handed() -> Jobs {
-    vec![vec![job(3, &[free(2)])], vec![job(1, &[request(0, 1)])], vec![job(0, &[request(0, 3)])]]
+    vec![vec![Job::new(3, &[free(2)])], vec![Job::new(1, &[request(0, 1)])], vec![Job::new(0, &[request(0, 3)])]]
 }
 
-fn job(release: u64, segments: &[Segment]) -> Job {
-    Job { release, segments: segments.to_vec() }
+/// On one processor. Tasks 2 and 1 come to wait for task 3's lock, which task 1 gets at 4 and task 2 at 5.
+fn queued() -> Jobs {
+    vec![vec![Job::new(2, &[request(0, 1)])], vec![Job::new(1, &[request(0, 1)])], vec![Job::new(0, &[request(0, 4)])]]
+}
+
+/// On one processor. Task 1 runs from 1 on, has its lock from 3 to 4, and task 2, which is released at 2, has it after that.
+fn left_out() -> Jobs {
+    vec![vec![Job::new(1, &[free(2), request(0, 1)])], vec![Job::new(2, &[request(0, 5)])]]
 }
 
 type Spoil = fn(&mut Vec<Interval>, &mut Finishes);
@@ -47,11 +53,15 @@ const HANDED: &[(&str, Spoil)] = &[("from 4 to 5: task 2 did not keep its lock",
     all.insert(3, later);
 })];
 
+const QUEUED: &[(&str, Spoil)] = &[("from 4 to 5: task 2 got a lock that a higher one waited for", |all, _| all[3].doing.swap(0, 1))];
+
+const LEFT_OUT: &[(&str, Spoil)] = &[("from 2 to 3: task 2 got a lock without a processor", |all, _| all[2].doing[1].holds = Some(0))];
+
 /// Says how many there are, if each is found out.
 pub fn hold() -> usize {
-    INHERITED.iter().for_each(|(fault, spoil)| found_out(&inherited(), fault, *spoil));
-    HANDED.iter().for_each(|(fault, spoil)| found_out(&handed(), fault, *spoil));
-    INHERITED.len() + HANDED.len()
+    let all = [(inherited(), INHERITED), (handed(), HANDED), (queued(), QUEUED), (left_out(), LEFT_OUT)];
+    all.iter().for_each(|(jobs, spoiled)| spoiled.iter().for_each(|(fault, spoil)| found_out(jobs, fault, *spoil)));
+    all.iter().map(|(_, spoiled)| spoiled.len()).sum()
 }
 
 fn found_out(jobs: &Jobs, fault: &str, spoil: Spoil) {

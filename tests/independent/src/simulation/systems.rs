@@ -55,8 +55,8 @@ fn filled(r: &mut Random, (m, n): (u64, u64), mut lock: impl FnMut(&mut Random, 
     table
 }
 
-/// The task holds a lock for so long in all, by up to so many requests.
-fn hold(r: &mut Random, task: &mut Task, k: usize, ct: u64, requests: u64) {
+/// A lock that the task holds for so long in all, by up to so many requests.
+fn give_lock(r: &mut Random, task: &mut Task, k: usize, ct: u64, requests: u64) {
     let n = r.within(1, requests);
     let c = r.within(ct.div_ceil(n), ct);
     task.locks[k] = Lock { n, c, ct };
@@ -75,7 +75,7 @@ fn any(r: &mut Random) -> Table {
             let left = task.outside_locks();
             if left > 0 && r.one_in(2) {
                 let ct = if r.one_in(4) { left } else { r.within(1, left) };
-                hold(r, task, k, ct, 3);
+                give_lock(r, task, k, ct, 3);
             }
         }
     })
@@ -88,7 +88,7 @@ fn held_above(r: &mut Random) -> Table {
     filled(r, (m, n), |r, slot, task| {
         if slot < holders {
             let ct = most_of(r, task);
-            hold(r, task, slot % locks, ct, 2);
+            give_lock(r, task, slot % locks, ct, 2);
         }
     })
 }
@@ -101,10 +101,10 @@ fn held_below(r: &mut Random) -> Table {
     filled(r, (m, n), |r, slot, task| {
         if slot < high as usize {
             let ct = r.within(1, task.c.div_ceil(3));
-            hold(r, task, slot, ct, 1);
+            give_lock(r, task, slot, ct, 1);
         } else if slot >= low as usize {
             let ct = most_of(r, task);
-            hold(r, task, slot - low as usize, ct, 2);
+            give_lock(r, task, slot - low as usize, ct, 2);
         }
     })
 }
@@ -115,7 +115,7 @@ fn often_requested(r: &mut Random) -> Table {
     filled(r, size, |r, _, task| {
         if !r.one_in(3) {
             let ct = r.within(1, task.c);
-            hold(r, task, 0, ct, 4);
+            give_lock(r, task, 0, ct, 4);
         }
     })
 }

@@ -36,23 +36,23 @@ impl Wrong {
         let mut r = Random::new(SEED);
         let mut count = Count::default();
         for (searched, system) in (1..=SYSTEMS).zip(search::meeting(report, systems::random(SEED))) {
-            if self.refuted_by(&mut r, &system, &mut count)? {
+            if self.refuted_by(&mut r, &system?, &mut count)? {
                 return Ok((searched, count));
             }
         }
         panic!("not refuted by {SYSTEMS} systems: {}", self.name);
     }
 
-    /// Whether a job of this system is later than its wrong bound. None may be later than the printed one.
+    /// Whether a job of this system is later than its wrong bound. In that schedule, too, none may be later than its printed one.
     fn refuted_by(&self, r: &mut Random, system: &System, count: &mut Count) -> Result<bool, Stop> {
         let bounds = self.bounds(&system.table);
         let mut search = Search::new(&system.table, &bounds);
         let smaller = (0..bounds.len()).filter(|&task| bounds[task] < system.bounds[task]);
         let late = smaller.map(|target| search.climb(r, target, STEPS)).find_map(Result::err);
         count.add(search.count);
-        match late {
-            Some(late) if late.response > system.bounds[late.task] => Err(system.told(*late)),
-            late => Ok(late.is_some()),
+        match late.map(|late| system.late_in(late.scenario)) {
+            Some(Some(late)) => Err(system.told(late)),
+            refuted => Ok(refuted.is_some()),
         }
     }
 
