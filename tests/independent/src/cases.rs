@@ -136,6 +136,12 @@ task 60 10 60
 use 1 1 10 10
 ";
 
+/// All meet, and task 1's bound does not hold without inheritance.
+pub const UNINHERITED: &str = "cpus 1\ntask 20 1 20\nuse 1 1 1 1\ntask 20 5 20\ntask 20 2 20\nuse 1 1 2 2\n";
+
+/// The same on two processors: all meet, and task 2's bound does not hold where task 1 spins while it waits.
+pub const SPINNING: &str = "cpus 2\ntask 20 1 20\nuse 1 1 1 1\ntask 20 5 20\ntask 20 2 20\nuse 1 1 2 2\n";
+
 /// The first demand that is worked out ends it: that of task 1 repeats, and that of task 2 passes its D.
 pub const ONE_ROUND: &str = "cpus 1\ntask 0.001 0.001 0.001\ntask 0.001 0.001 0.001\n";
 
@@ -463,7 +469,7 @@ pub fn listings() -> Vec<Vec<u8>> {
     all.extend(capped.map(|text| text.as_bytes().to_vec()));
     all.extend(rounds().into_iter().map(String::into_bytes));
     all.extend(longer().into_iter().map(String::into_bytes));
-    all.extend([BACKLOG, BACKLOG_BELOW, BACKLOG_ABOVE, QUEUED, TO_THE_LETTER].map(|text| text.as_bytes().to_vec()));
+    all.extend([BACKLOG, BACKLOG_BELOW, BACKLOG_ABOVE, QUEUED, TO_THE_LETTER, UNINHERITED, SPINNING].map(|text| text.as_bytes().to_vec()));
     all.push(largest().into_bytes());
     all.push(longest().into_bytes());
     // a miss, and a bound, in the very last round that `report` allows

@@ -2,7 +2,7 @@
 
 use super::printed::Report;
 use super::search::{self, System, Tried};
-use super::{page, picture, systems, Stop};
+use super::{page, picture, Stop};
 use crate::analysis::{terms, workload};
 use std::path::Path;
 
@@ -63,8 +63,7 @@ fn put(path: &str, text: &str) -> Result<(), Stop> {
 
 fn observe(report: &Report, systems: u64, seed: u64) -> Result<(Tried, [Class; 4]), Stop> {
     let mut classes = CLASSES.map(|name| Class { name, quotients: Vec::new() });
-    let drawn = search::meeting(report, systems::random(seed)).zip(0..systems).map(|(system, _)| system);
-    let tried = search::through(drawn, seed, |r, system, search| {
+    let tried = search::random(report, seed, systems as usize, |r, system, search| {
         search::climb_to_each(r, search, CLIMBS, STEPS)?;
         for (task, (&observed, &bound)) in search.largest.iter().zip(&system.bounds).enumerate() {
             classes[place(system, task)].quotients.push(observed as f64 / bound as f64);

@@ -1,7 +1,7 @@
 //! Jobs of a table and choices of the kernel, drawn at random, all within the limits of the table and the model.
 
 use super::jobs::{free, joined, request, Job, Jobs, Segment};
-use super::kernel::{Granting, Inheritance, Kernel, Order};
+use super::kernel::{Granting, Inheritance, Kernel, Order, Wait};
 use crate::random::Random;
 use crate::table::{Table, Task};
 
@@ -13,7 +13,7 @@ pub fn kernel(r: &mut Random) -> Kernel {
         1 | 2 => Order::Sorted { arrivals_first: r.one_in(2), lowest_first: true },
         _ => Order::Drawn(r.next()),
     };
-    Kernel { granting, inheritance: Inheritance::Waiting, order }
+    Kernel { granting, inheritance: Inheritance::Waiting, wait: Wait::Suspended, order }
 }
 
 /// What one job of a task runs: mostly all that it may.

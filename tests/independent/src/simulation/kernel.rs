@@ -26,6 +26,17 @@ pub enum Inheritance {
     /// A wrong kernel, section II to the letter: from a waiting job only while it is one of the m jobs of the highest effective priority, where those
     /// that wait count too.
     WaitingAmongHighest,
+    /// A wrong kernel, without inheritance.
+    Nobody,
+}
+
+/// What becomes of the processor of a job that waits.
+#[derive(Clone, Copy, PartialEq, Eq, Debug)]
+pub enum Wait {
+    /// The job gives it up.
+    Suspended,
+    /// A wrong kernel: the job keeps it as long as its own priority lets it.
+    Spinning,
 }
 
 /// In which order events of one instant happen.
@@ -49,6 +60,7 @@ pub const ORDERS: [Order; 5] = [
 pub struct Kernel {
     pub granting: Granting,
     pub inheritance: Inheritance,
+    pub wait: Wait,
     pub order: Order,
 }
 
@@ -62,8 +74,13 @@ impl fmt::Display for Kernel {
         let inheritance = match self.inheritance {
             Inheritance::Waiting => "",
             Inheritance::WaitingAmongHighest => ", and its holder inherits only from one of the m highest",
+            Inheritance::Nobody => ", and its holder inherits from nobody",
         };
-        writeln!(f, "a lock {granting}{inheritance}; the order of events at one instant: {:?}", self.order)
+        let wait = match self.wait {
+            Wait::Suspended => "",
+            Wait::Spinning => "; who waits spins",
+        };
+        writeln!(f, "a lock {granting}{inheritance}{wait}; the order of events at one instant: {:?}", self.order)
     }
 }
 
@@ -247,12 +264,16 @@ impl<'a> Run<'a> {
     }
 
     fn assigned_unless_one_waits(&mut self) -> bool {
-        let order = self.ready_in_order();
+        let order = self.in_order();
         self.tasks.iter_mut().for_each(|task| task.runs = false);
         let mut unassigned = self.processors;
         for task in order {
             if unassigned == 0 {
                 return true;
+            }
+            if self.tasks[task].waits.is_some() {
+                unassigned -= 1;
+                continue;
             }
             if let Some(lock) = self.requests(task) {
                 if self.holder[lock].is_some() {
@@ -272,15 +293,17 @@ impl<'a> Run<'a> {
         self.asked += 1;
     }
 
-    /// The pending jobs that do not wait, in the order of their effective priorities.
-    fn ready_in_order(&self) -> Vec<usize> {
+    /// The pending jobs that do not wait, and those that spin, in the order of their effective priorities.
+    fn in_order(&self) -> Vec<usize> {
         let effective = match self.kernel.inheritance {
             Inheritance::Waiting => self.inherited(),
             Inheritance::WaitingAmongHighest => self.inherited_among_highest(),
+            Inheritance::Nobody => (0..self.tasks.len()).collect(),
         };
-        let mut ready: Vec<usize> = (0..self.tasks.len()).filter(|&task| self.pending(task) && self.tasks[task].waits.is_none()).collect();
-        ready.sort_by_key(|&task| effective[task]);
-        ready
+        let wants_processor = |&task: &usize| self.pending(task) && (self.tasks[task].waits.is_none() || self.kernel.wait == Wait::Spinning);
+        let mut all: Vec<usize> = (0..self.tasks.len()).filter(wants_processor).collect();
+        all.sort_by_key(|&task| effective[task]);
+        all
     }
 
     fn inherited(&self) -> Vec<usize> {

@@ -83,8 +83,7 @@ fn try_all(path: &str) -> Result<(), Stop> {
     }
     let chosen = search::meeting(&report, systems::chosen());
     say("chosen", &search::through(chosen, SEED, |r, _, search| search::climb_to_each(r, search, CLIMBS, STEPS))?);
-    let random = search::meeting(&report, systems::random(SEED)).take(SYSTEMS);
-    say("random", &search::through(random, SEED, some_climbs)?);
+    say("random", &search::random(&report, SEED, SYSTEMS, some_climbs)?);
     Ok(())
 }
 

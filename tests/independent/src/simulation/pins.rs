@@ -2,7 +2,7 @@
 //! granting and the order of events at one instant.
 
 use super::jobs::{free, may_be, may_run, request, Job, Segment};
-use super::kernel::{Granting, Inheritance, Kernel, Order, ORDERS};
+use super::kernel::{Granting, Inheritance, Kernel, Order, Wait, ORDERS};
 use super::scenario::Scenario;
 use crate::table::{Lock, Task};
 use crate::{cases, listing};
@@ -63,7 +63,7 @@ impl Pin {
         let jobs: Vec<Vec<Job>> = self.told.iter().map(|jobs| jobs.iter().map(|(job, _)| job.clone()).collect()).collect();
         let finishes: Vec<Vec<u64>> = self.told.iter().map(|jobs| jobs.iter().map(|(_, finish)| *finish).collect()).collect();
         for (&granting, &order) in self.granting.iter().flat_map(|granting| self.orders.iter().map(move |order| (granting, order))) {
-            let kernel = Kernel { granting, inheritance: Inheritance::Waiting, order };
+            let kernel = Kernel { granting, inheritance: Inheritance::Waiting, wait: Wait::Suspended, order };
             assert_eq!(kernel.finishes(self.m, &jobs), finishes, "{}: the finishes under {kernel:?}", self.what);
             let scenario = Scenario { jobs: jobs.clone(), kernel };
             assert_eq!(scenario.audited(self.m), Ok(()), "{}: the schedule under {kernel:?}", self.what);

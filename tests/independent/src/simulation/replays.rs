@@ -1,19 +1,24 @@
 //! Schedules in which a bound is passed because something is not as it presumes, told with their listings: a task misses, or the kernel is a wrong one. Each
-//! is replayed from its releases and segments, and takes exactly as long as told. With a right kernel no job of the last two is late.
+//! is replayed from its releases and segments, and takes exactly as long as told. Where all tasks meet, no job is late with a right kernel.
 
 use super::jobs::{free, may_be, request, Job, Jobs, Segment};
-use super::kernel::{Granting, Inheritance, Kernel, ORDERS};
+use super::kernel::{Granting, Inheritance, Kernel, Wait, ORDERS};
 use super::printed::Report;
 use super::scenario::Scenario;
 use super::Stop;
 use crate::{cases, listing};
 
-const RIGHT: [Way; 2] = [(Granting::Scheduled, Inheritance::Waiting), (Granting::Highest, Inheritance::Waiting)];
-const FIFO: [Way; 1] = [(Granting::Longest, Inheritance::Waiting)];
-const TO_THE_LETTER: [Way; 1] = [(Granting::Scheduled, Inheritance::WaitingAmongHighest)];
-
 /// A kernel but for its order of events at one instant, which does not matter in these schedules: each is replayed in several.
-type Way = (Granting, Inheritance);
+type Way = (Granting, Inheritance, Wait);
+
+const RIGHT: [Way; 2] =
+    [(Granting::Scheduled, Inheritance::Waiting, Wait::Suspended), (Granting::Highest, Inheritance::Waiting, Wait::Suspended)];
+const FIFO: [Way; 1] = [(Granting::Longest, Inheritance::Waiting, Wait::Suspended)];
+const TO_THE_LETTER: [Way; 1] = [(Granting::Scheduled, Inheritance::WaitingAmongHighest, Wait::Suspended)];
+const UNINHERITED: [Way; 2] =
+    [(Granting::Scheduled, Inheritance::Nobody, Wait::Suspended), (Granting::Highest, Inheritance::Nobody, Wait::Suspended)];
+const SPINNING: [Way; 2] =
+    [(Granting::Scheduled, Inheritance::Waiting, Wait::Spinning), (Granting::Highest, Inheritance::Waiting, Wait::Spinning)];
 
 struct Replay {
     listing: &'static str,
@@ -95,6 +100,24 @@ fn replays() -> Vec<Replay> {
                 alike(&[0], &[request(0, 10_000)]),
             ],
         },
+        Replay {
+            listing: cases::UNINHERITED,
+            misses: &[],
+            task: 1,
+            bound: 3_000,
+            response: 7_900,
+            ways: &UNINHERITED,
+            jobs: vec![alike(&[100], &[request(0, 1_000)]), alike(&[200], &[free(5_000)]), alike(&[0], &[request(0, 2_000)])],
+        },
+        Replay {
+            listing: cases::SPINNING,
+            misses: &[],
+            task: 2,
+            bound: 5_000,
+            response: 6_800,
+            ways: &SPINNING,
+            jobs: vec![alike(&[100], &[request(0, 1_000)]), alike(&[200], &[free(5_000)]), alike(&[0], &[request(0, 2_000)])],
+        },
     ]
 }
 
@@ -125,15 +148,15 @@ impl Replay {
     }
 
     fn scenarios<'a>(&'a self, ways: &'a [Way]) -> impl Iterator<Item = Scenario> + 'a {
-        let kernels = ways.iter().flat_map(|&(granting, inheritance)| ORDERS.map(|order| Kernel { granting, inheritance, order }));
+        let kernels = ways.iter().flat_map(|&(granting, inheritance, wait)| ORDERS.map(|order| Kernel { granting, inheritance, wait, order }));
         kernels.map(|kernel| Scenario { jobs: self.jobs.clone(), kernel })
     }
 
     /// The audit agrees if the kernel is a right one, and finds a wrong one out.
     fn as_told(&self, scenario: &Scenario, m: u64) {
-        let Kernel { granting, inheritance, .. } = scenario.kernel;
+        let Kernel { granting, inheritance, wait, .. } = scenario.kernel;
         assert_eq!(scenario.response(m, self.task - 1), self.response, "task {} under {} of\n{}", self.task, scenario.kernel, self.listing);
-        assert_eq!(scenario.audited(m).is_ok(), RIGHT.contains(&(granting, inheritance)), "audited under {} of\n{}", scenario.kernel, self.listing);
+        assert_eq!(scenario.audited(m).is_ok(), RIGHT.contains(&(granting, inheritance, wait)), "audited under {} of\n{}", scenario.kernel, self.listing);
     }
 
     fn in_time(&self, scenario: &Scenario, m: u64, bounds: &[Option<u64>]) {

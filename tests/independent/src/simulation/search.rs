@@ -3,7 +3,7 @@
 use super::climb::{Count, Search};
 use super::printed::Report;
 use super::scenario::{Late, Scenario};
-use super::Stop;
+use super::{systems, Stop};
 use crate::listing;
 use crate::random::Random;
 use crate::table::Table;
@@ -39,8 +39,8 @@ impl System {
 
     /// The first task that is later than its bound in a scenario, if one is.
     pub fn late_in(&self, scenario: Scenario) -> Option<Late> {
-        let responses = (0..self.bounds.len()).map(|task| (task, scenario.response(self.table.m, task)));
-        let (task, response) = { responses }.find(|&(task, response)| response > self.bounds[task])?;
+        let mut responses = (0..self.bounds.len()).map(|task| (task, scenario.response(self.table.m, task)));
+        let (task, response) = responses.find(|&(task, response)| response > self.bounds[task])?;
         Some(Late { scenario, task, response })
     }
 
@@ -68,6 +68,21 @@ pub fn through(
         tried.drawn = system.looked_at;
         tried.searched += 1;
         tried.count.add(search.count);
+    }
+    Ok(tried)
+}
+
+/// Searches so many random systems. Of a program that says of nine tables in ten that a task misses there is nothing to search.
+pub fn random(
+    report: &Report,
+    seed: u64,
+    systems: usize,
+    each: impl FnMut(&mut Random, &System, &mut Search) -> Result<(), Box<Late>>,
+) -> Result<Tried, Stop> {
+    let tables = systems::random(seed).take(systems.saturating_mul(10));
+    let tried = through(meeting(report, tables).take(systems), seed, each)?;
+    if tried.searched < systems as u64 {
+        return Err(Stop::BadInput(format!("all tasks meet in {} of {} systems only", tried.searched, systems.saturating_mul(10))));
     }
     Ok(tried)
 }

@@ -2,7 +2,7 @@
 
 use super::audit;
 use super::jobs::{free, request, Job, Jobs};
-use super::kernel::{Finishes, Granting, Inheritance, Interval, Kernel, Order};
+use super::kernel::{Finishes, Granting, Inheritance, Interval, Kernel, Order, Wait};
 
 /// On one processor. Task 1 waits for task 3's lock from 2 to 4, has it to 5, and task 2 runs from then to 10.
 fn inherited() -> Jobs {
@@ -66,7 +66,7 @@ pub fn hold() -> usize {
 
 fn found_out(jobs: &Jobs, fault: &str, spoil: Spoil) {
     let order = Order::Sorted { arrivals_first: true, lowest_first: false };
-    let kernel = Kernel { granting: Granting::Highest, inheritance: Inheritance::Waiting, order };
+    let kernel = Kernel { granting: Granting::Highest, inheritance: Inheritance::Waiting, wait: Wait::Suspended, order };
     let (mut finishes, mut intervals) = kernel.schedule(1, jobs);
     assert_eq!(audit::fault(1, jobs, &finishes, &intervals), Ok(()), "what is spoiled must be right before");
     spoil(&mut intervals, &mut finishes);

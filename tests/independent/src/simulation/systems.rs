@@ -25,7 +25,7 @@ pub fn random(seed: u64) -> impl Iterator<Item = Table> {
 pub fn chosen() -> impl Iterator<Item = Table> {
     let [story, easier, falls] = [cases::STORY, cases::EASIER, cases::FALLS];
     let capped = [cases::LONG_ABOVE, cases::LONGER_ABOVE, cases::LONG_LOCK_ABOVE, cases::LONG_LOCK_BELOW, cases::TWO_ABOVE, cases::O_AND_F];
-    let others = [cases::CASE_A, cases::THIRDS, cases::QUEUED, cases::TO_THE_LETTER, include_str!("../../../../examples/board.txt")];
+    let others = [cases::CASE_A, cases::THIRDS, cases::QUEUED, cases::TO_THE_LETTER, cases::UNINHERITED, cases::SPINNING, include_str!("../../../../examples/board.txt")];
     let all = [&story[..], &easier, &falls, &capped, &others].concat();
     all.into_iter().map(|text| listing::read(text.as_bytes()).expect("an accepted listing"))
 }
