@@ -5,7 +5,7 @@ use mathlib.Core.Path.{_≡_, refl, sym, ap, ap₂, _∙_}
 use mathlib.Core.Bool.{Bool, true, false, _&&_, _||_}
 use mathlib.Core.List.{List, [], _∷_}
 use borrow.Author.Tests.{eqb-true, ne-eqb, lt-ltb}
-use lib.Dec.{T, eqb, ltb, lit<}
+use lib.Dec.{eqb, ltb, lit<}
 use lib.ListN.{getD}
 use Rattle.basics.specs.Choice.{pick}
 use Rattle.basics.specs.Over.{allTo}

@@ -34,7 +34,7 @@ module _ (v w : View) (fits : Fitting v) (i : Level) (same : SameRead v w i) (t 
   unfolding AgreeOn
   part-eq p x y e = rw (same tasks) (sum-eq (v .n) _ _ (λ l h. only-when (p (level l)) _ _ (e l h)))
 
-  -- over the tasks above i and below it: what is read of one is the same
+  -- a sum over the tasks above i, of units of which each that counts is of a task that is read
   above-eq : (x y : Level → ℕ) → ((l : ℕ) → l < v .n → Above (level l) i → y (level l) ≡ x (level l)) → ((l : ℕ) → l < v .n → Above (level l) i → 1 ≤ x (level l) → Reads v i (level l))
       → sumTo (w .n) (λ l. only (isAbove (level l) i) (loadOf workload w t (level l) (y (level l))))
       ≡ sumTo (v .n) (λ l. only (isAbove (level l) i) (loadOf workload v t (level l) (x (level l))))

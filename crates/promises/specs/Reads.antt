@@ -103,12 +103,12 @@ abbrev pub SameAnswers : (View → View → Level → Type 0) → Type 0
 SameAnswers R =
     (a b : Table) (i : ℕ) → Related (λ v w. R v w (level i)) a b → i < a .n → (allowance : ℕ) → boundOf b (level i) allowance ≡ boundOf a (level i) allowance
 
--- m and n are the same in both, and of some tasks so are their figures: C of those that `run` names, T, D, N, c and CT of those that `rest` names
-pub record Unchanged (rest run : Level → Type 0) (v w : View) : Type 0 where
+-- m and n are the same in both, and of some tasks so are their figures: C of those that `runs` names, T, D, N, c and CT of those that `rest` names
+pub record Unchanged (rest runs : Level → Type 0) (v w : View) : Type 0 where
   pub cpus : w .cpus ≡ v .cpus
   pub n : w .n ≡ v .n
   pub T : eachTask v (λ l. rest l → w .T l ≡ v .T l)
-  pub C : eachTask v (λ l. run l → w .C l ≡ v .C l)
+  pub C : eachTask v (λ l. runs l → w .C l ≡ v .C l)
   pub D : eachTask v (λ l. rest l → w .D l ≡ v .D l)
   pub N : eachPair v (λ l k. rest l → w .N l k ≡ v .N l k)
   pub c : eachPair v (λ l k. rest l → w .c l k ≡ v .c l k)
