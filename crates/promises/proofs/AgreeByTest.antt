@@ -13,8 +13,8 @@ use Rattle.basics.proofs.AllLaws.{all-at}
 use Rattle.table.specs.declared.Level.{Level}
 use Rattle.table.specs.Limits.{maxResources}
 use Rattle.theory.specs.View.{View, level, resource, isAbove, largestBelow, uses}
-use Rattle.theory.specs.Demand.{sharedCT, otherCT, allCT, highCT}
-use Rattle.promises.specs.Reads.{Above, LongForm, Reads, unitsRead, FigureKind, processors, tasks, run, deadline, requests, periodAbove, deadlineAbove, shared, other, free, periodBelow, deadlineBelow, high, longest, AgreeOn, SameRead, SameBut, highBy, SameByFirst}
+use Rattle.theory.specs.Demand.{sharedCT, otherCT, allCT, highCT, unitsRead}
+use Rattle.promises.specs.Reads.{Above, LongForm, Reads, FigureKind, processors, tasks, run, deadline, requests, periodAbove, deadlineAbove, shared, other, free, periodBelow, deadlineBelow, high, longest, AgreeOn, SameRead, SameBut, highBy, SameByFirst}
 use Rattle.promises.proofs.ReadsLaws.{Fitting, above-is, read-units}
 
 -- the second is asked where the first holds

@@ -12,12 +12,12 @@ use Rattle.table.specs.Rules.{timesInRange, timesInOrder, timesFault, isUnused,
 use Rattle.theory.specs.declared.Verdict.the-variants.{Meets, Misses}
 use Rattle.theory.specs.Work.{uncapped, workload, jobs, ceilDiv}
 use Rattle.theory.specs.View.{level, ceiling}
-use Rattle.theory.specs.Demand.{sharedCT, otherCT, allCT, highCT, DB, S, O, F, L, demandWith}
+use Rattle.theory.specs.Demand.{sharedCT, otherCT, allCT, highCT, DB, S, O, F, L, demandWith, unitsRead}
 use Rattle.theory.specs.Rounds.{countedFrom}
 use Rattle.theory.specs.Tables.{viewOf}
 use Rattle.promises.specs.NoEasier.{Related}
 use Rattle.promises.specs.NotEmpty.{on, caseA}
-use Rattle.promises.specs.Reads.{unitsRead, FigureKind, processors, tasks, run, deadline, requests, periodAbove, deadlineAbove, shared, other, free, periodBelow, deadlineBelow, high, longest, SameBut}
+use Rattle.promises.specs.Reads.{FigureKind, processors, tasks, run, deadline, requests, periodAbove, deadlineAbove, shared, other, free, periodBelow, deadlineBelow, high, longest, SameBut}
 use Rattle.promises.specs.EachRead.{Stays, Tells, TellsMiss, unlocked, lockApart, lockShared, EachRead}
 use Rattle.promises.proofs.AgreeByTest.{agreesOn, numbered, isSame, isSameBut, same-by, same-but-by, same-by-first}
 use Rattle.promises.proofs.UnchangedByTest.{unchanged, only-run-by, where-read-by}

@@ -17,6 +17,7 @@ use Rattle.theory.specs.declared.Verdict.{Verdict}
 use Rattle.theory.specs.declared.Verdict.the-variants.{Meets, Misses}
 use Rattle.theory.specs.declared.Counted.{Counted}
 use Rattle.theory.specs.View.{View, level}
+use Rattle.theory.specs.Demand.{unitsRead}
 use Rattle.theory.specs.Bound.{Least, None}
 use Rattle.theory.specs.Rounds.{countedFrom}
 use Rattle.theory.specs.Tables.{viewOf, countedIn}
@@ -27,7 +28,7 @@ use Rattle.promises.specs.Demand2.{demandIn, deadlineIn}
 use Rattle.promises.specs.NoEasier.{Related}
 use Rattle.promises.specs.NotEmpty.{on, Moves, Lost}
 use Rattle.promises.specs.Rounds.{PrintsRows}
-use Rattle.promises.specs.Reads.{Above, Reads, unitsRead, FigureKind, processors, tasks, run, deadline, requests, periodAbove, deadlineAbove, shared, other, free, periodBelow, deadlineBelow, high, longest, AgreeOn, SameRead, SameBut, SameWhereRead, SameByFirst, SameAnswers, OnlyRun, VerdictReads}
+use Rattle.promises.specs.Reads.{Above, Reads, FigureKind, processors, tasks, run, deadline, requests, periodAbove, deadlineAbove, shared, other, free, periodBelow, deadlineBelow, high, longest, AgreeOn, SameRead, SameBut, SameWhereRead, SameByFirst, SameAnswers, OnlyRun, VerdictReads}
 use Rattle.promises.proofs.Demand2Holds.{demand2}
 use Rattle.promises.proofs.ThreeTasks.{some-allowed}
 use Rattle.promises.proofs.RoundsHold.{rounds-hold}

@@ -22,11 +22,11 @@ use Rattle.table.specs.Empty.{unusedPair}
 use Rattle.table.specs.Accepted.{GoodPair}
 use Rattle.table.proofs.Acceptance.{fine-accepted}
 use Rattle.theory.specs.View.{View, level, resource, isAbove, overResources, uses, ceiling}
-use Rattle.theory.specs.Demand.{sharedCT, highCT}
+use Rattle.theory.specs.Demand.{sharedCT, highCT, unitsRead}
 use Rattle.theory.specs.Tables.{viewOf}
 use Rattle.theory.proofs.PassLaws.{split-all}
 use Rattle.promises.specs.NoEasier.{eachTask, eachPair}
-use Rattle.promises.specs.Reads.{Above, LongForm, Reads, sharing, higher, lower, unitsRead}
+use Rattle.promises.specs.Reads.{Above, LongForm, Reads, sharing, higher, lower}
 
 -- what the check leaves of a table, as far as these laws need it: a pair has units exactly if it is in use, and every task runs
 pub record Fitting (v : View) : Type 0 where

@@ -15,9 +15,9 @@ use Rattle.table.specs.declared.Level.{Level}
 use Rattle.table.specs.Limits.{maxResources}
 use Rattle.theory.specs.Work.{workload, ceilDiv}
 use Rattle.theory.specs.View.{View, level, resource, isAbove, uses}
-use Rattle.theory.specs.Demand.{sharedCT, otherCT, allCT, highCT, DB, loadOf, S, O, F, L, demandWith, demandOf}
+use Rattle.theory.specs.Demand.{sharedCT, otherCT, allCT, highCT, DB, loadOf, S, O, F, L, demandWith, demandOf, unitsDivided, unitsRead}
 use Rattle.theory.proofs.WorkLaws.{workload-none}
-use Rattle.promises.specs.Reads.{Above, LongForm, Reads, higher, unitsDivided, unitsRead, processors, tasks, run, requests, periodAbove, deadlineAbove, shared, other, free, periodBelow, deadlineBelow, high, longest, AgreeOn, SameRead}
+use Rattle.promises.specs.Reads.{Above, LongForm, Reads, higher, processors, tasks, run, requests, periodAbove, deadlineAbove, shared, other, free, periodBelow, deadlineBelow, high, longest, AgreeOn, SameRead}
 use Rattle.promises.proofs.ReadsLaws.{Fitting, is-above, shared-read, high-read}
 
 module _ (v w : View) (fits : Fitting v) (i : Level) (same : SameRead v w i) (t : ℕ) where

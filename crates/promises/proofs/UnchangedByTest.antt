@@ -14,7 +14,8 @@ use Rattle.table.specs.declared.Level.{Level}
 use Rattle.table.specs.declared.Resource.{Resource}
 use Rattle.table.specs.Limits.{maxResources}
 use Rattle.theory.specs.View.{View, level, resource}
-use Rattle.promises.specs.Reads.{Reads, unitsRead, longest, Unchanged, OnlyRun, SameWhereRead}
+use Rattle.theory.specs.Demand.{unitsRead}
+use Rattle.promises.specs.Reads.{Reads, longest, Unchanged, OnlyRun, SameWhereRead}
 use Rattle.promises.proofs.ReadsLaws.{Fitting, read-units}
 use Rattle.promises.proofs.AgreeByTest.{Has, sameOf, Passed, same-of, agreesOn, agree-by}
 

@@ -1,12 +1,11 @@
 -- Which figures of a table a verdict reads. Two accepted tables that agree on them have the same verdict, with the same rounds, for the task asked about, however much they differ in all others.
 -- `EachRead` has, for each kind of them, two tables that show why it is asked.
-use Prim.Native.Nat.{ℕ, _+_, _-_, _≤_, _<_}
+use Prim.Native.Nat.{ℕ, _-_, _≤_, _<_}
 use mathlib.Core.Path.{_≡_}
 use mathlib.Core.Bool.{true}
 use mathlib.Core.List.{List}
 use mathlib.Core.Logic.{_⊎_}
-use lib.Dec.{leb}
-use Rattle.basics.specs.Choice.{pick, only}
+use Rattle.basics.specs.Choice.{only}
 use Rattle.basics.specs.Exactly.{_exactly-if_}
 use Rattle.table.specs.declared.Level.{Level}
 use Rattle.table.specs.declared.Table.{Table}
@@ -15,7 +14,7 @@ use Rattle.table.specs.Limits.{maxResources}
 use Rattle.table.specs.Rules.{tableFault}
 use Rattle.theory.specs.declared.Counted.{Counted}
 use Rattle.theory.specs.View.{View, level, resource, isAbove, overResources, largestBelow, uses, ceiling}
-use Rattle.theory.specs.Demand.{sharedCT, otherCT, allCT, highCT}
+use Rattle.theory.specs.Demand.{sharedCT, otherCT, allCT, highCT, unitsRead}
 use Rattle.theory.specs.Tables.{viewOf}
 use Rattle.analysis.specs.Answers.{boundOf}
 use Rattle.promises.specs.NoEasier.{eachTask, eachPair, Related}
@@ -40,12 +39,7 @@ pub data Reads (v : View) (i l : Level) : Type 0 where
   -- and those below that use a lock whose ceiling is above i"
   lower : LongForm v i → Above i l → (k : ℕ) → k < maxResources → uses v l (resource k) ≡ true → Above (ceiling v (resource k)) i → Reads v i l
 
--- the same by the terms of the demand: the units of task l that count in it, those of S, and for i > m those of O, F and L
-abbrev pub unitsDivided : View → Level → Level → ℕ
-unitsDivided v i l = only (isAbove l i) (otherCT v i l + (v .C l - allCT v l)) + only (isAbove i l) (highCT v i l)
-
-unfoldable pub unitsRead : View → Level → Level → ℕ
-unitsRead v i l = only (isAbove l i) (sharedCT v i l) + pick (leb (i .0) (v .cpus)) 0 (unitsDivided v i l)
+-- The same by the terms of the demand is `unitsRead` of `theory`: the units of task l that count in it
 
 -- ---- which figures
 

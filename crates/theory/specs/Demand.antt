@@ -57,3 +57,10 @@ demandWith W v i t =
 -- with the workload that is read: since request 3/12, that of at most t
 abbrev pub demandOf : View → Level → ℕ → ℕ
 demandOf v i t = demandWith workload v i t
+
+-- which tasks' workloads stand in the demand of i: of task l so many units count, those of S, and for i > m those of O, F and L
+abbrev pub unitsDivided : View → Level → Level → ℕ
+unitsDivided v i l = only (isAbove l i) (otherCT v i l + (v .C l - allCT v l)) + only (isAbove i l) (highCT v i l)
+
+unfoldable pub unitsRead : View → Level → Level → ℕ
+unitsRead v i l = only (isAbove l i) (sharedCT v i l) + pick (leb (i .0) (v .cpus)) 0 (unitsDivided v i l)
