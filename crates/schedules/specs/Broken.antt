@@ -1,0 +1,243 @@
+-- Runs in which a job takes longer than its task's length: for each fact about a kernel one in which it alone is broken; on kernels of other kinds; with smaller demands; and one of a task that has a bound, and reads one that has none.
+use Prim.Native.Nat.{ℕ, pred}
+use Prim.Native.String.{String}
+use mathlib.Core.Bool.{_&&_}
+use mathlib.Core.List.{List, [], _∷_, map}
+use lib.Dec.{eqb}
+use lib.ListN.{length, getD}
+use Rattle.basics.specs.Choice.{only}
+use Rattle.basics.specs.Over.{countTo}
+use Rattle.basics.specs.Text.{bytes}
+use Rattle.table.specs.declared.Level.{Level}
+use Rattle.table.specs.declared.Resource.{Resource}
+use Rattle.table.specs.declared.Pair.{Pair}
+use Rattle.table.specs.Empty.{unusedPair}
+use Rattle.table.specs.At.{aPair}
+use Rattle.theory.specs.View.{View}
+use Rattle.schedules.specs.Jobs.{inLock}
+use Rattle.schedules.specs.Schedule.{KernelFact, runs-pending, runs-locked, conserves, one-holder, holds-pending, holds-lock, keeps, goes-on, asked-on, not-past}
+use Rattle.schedules.specs.Wrong.{OtherKernel, spins, no-inheritance, WrongDemand, no-DB, no-S, no-O, no-F, no-L, once-a-lock, next-ceiling, one-less}
+use Rattle.schedules.specs.Picture.{Picture, jobsOf}
+
+-- one task of such a run: when its job is released, a length that covers its demand, the job's units and what it does
+pub record DrawnTask : Type 0 where
+  pub first : ℕ
+  pub bound : ℕ
+  pub units : List ℕ
+  pub doing : List ℕ
+
+abbrev drawn : ℕ → ℕ → String → String → DrawnTask
+drawn first bound units doing = record { first = first; bound = bound; units = bytes units; doing = bytes doing }
+
+-- the slot of the task that is late; and the tasks, the highest first
+pub record BrokenRun : Type 0 where
+  pub cpus : ℕ
+  pub late : ℕ
+  pub tasks : List DrawnTask
+
+abbrev onCpus : ℕ → ℕ → List DrawnTask → BrokenRun
+onCpus cpus late tasks = record { cpus = cpus; late = late; tasks = tasks }
+
+-- Each is drawn up to the instant at which the late job is to be finished, in the letters of `Picture`
+unfoldable pub brokenRun : KernelFact → BrokenRun
+-- the first runs a job that is not there yet, and the second has no processor
+brokenRun runs-pending =
+    onCpus 1 1
+    (drawn 0 1 "-" "rr"
+    ∷ drawn 0 2 "-" ".."
+    ∷ [])
+-- The third starts its request without the lock, which the second has, and is in the midst of it when the lock is free: so it did not get it past the first. That waits for both
+brokenRun runs-locked =
+    onCpus 2 0
+    (drawn 0 3 "1" "aaa"
+    ∷ drawn 0 5 "11" "RR."
+    ∷ drawn 1 5 "11" ".rR"
+    ∷ [])
+-- nobody runs
+brokenRun conserves = onCpus 1 0 (drawn 0 1 "-" "." ∷ [])
+-- two have the lock that the first waits for, and it waits for one after the other
+brokenRun one-holder =
+    onCpus 1 0
+    (drawn 0 2 "1" "aa"
+    ∷ drawn 0 4 "1" "R."
+    ∷ drawn 0 3 "1" "hR"
+    ∷ [])
+-- the second has the lock before its job is there to run, and the first waits until then
+brokenRun holds-pending =
+    onCpus 1 0
+    (drawn 0 2 "1" "aa"
+    ∷ drawn 9 2 "1" "hh"
+    ∷ [])
+-- neither needs a lock, and yet the first waits for the second as if that had one
+brokenRun holds-lock =
+    onCpus 1 0
+    (drawn 0 1 "-" "a"
+    ∷ drawn 0 2 "-" "R"
+    ∷ [])
+-- The second waited for the third and has the lock. While the first runs, it loses the lock, the fourth gets it, and the second waits again for the same request.
+-- If it had been taken for one that has asked, no lower one would have got the lock: see `not-past`
+brokenRun keeps =
+    onCpus 1 1
+    (drawn 2 1 "-" "..r."
+    ∷ drawn 0 4 "11" "aRHa"
+    ∷ drawn 0 6 "1" "R..."
+    ∷ drawn 0 5 "1" "...R"
+    ∷ [])
+-- the first waited for the second, runs one unit with the lock, loses it to the third before the next, and waits again for the same request
+brokenRun goes-on =
+    onCpus 1 0
+    (drawn 0 3 "11" "aRa"
+    ∷ drawn 0 5 "1" "R.."
+    ∷ drawn 0 4 "1" "..R"
+    ∷ [])
+-- The second waited for the third. While the first runs, it is not among those that have asked, so the fourth gets the lock, and the second waits again for the same request
+brokenRun asked-on =
+    onCpus 1 1
+    (drawn 1 1 "-" ".r."
+    ∷ drawn 0 3 "1" "a.a"
+    ∷ drawn 0 5 "1" "R.."
+    ∷ drawn 0 4 "1" "..R"
+    ∷ [])
+-- the first waits for the second, and the lock goes to the third, which is lower
+brokenRun not-past =
+    onCpus 1 0
+    (drawn 0 2 "1" "aa"
+    ∷ drawn 0 4 "1" "R."
+    ∷ drawn 0 3 "1" "aR"
+    ∷ [])
+
+-- who waits keeps the one processor, and the second, which has the lock, never runs again; the second runs while the first waits for the third, whose priority is not raised
+unfoldable pub otherRun : OtherKernel → BrokenRun
+otherRun spins =
+    onCpus 1 0
+    (drawn 1 3 "1" ".aaa"
+    ∷ drawn 0 4 "11" "Rhhh"
+    ∷ [])
+otherRun no-inheritance =
+    onCpus 1 0
+    (drawn 1 3 "1" ".aaa"
+    ∷ drawn 1 9 "---" ".rrr"
+    ∷ drawn 0 9 "11" "Rhhh"
+    ∷ [])
+
+-- no fact is broken, and the lengths cover what is left of the demands
+unfoldable pub smallRun : WrongDemand → BrokenRun
+-- the first waits for the second
+smallRun no-DB =
+    onCpus 1 0
+    (drawn 0 1 "1" "a"
+    ∷ drawn 0 9 "1" "R"
+    ∷ [])
+-- the second waits for the first, and the other processor is free
+smallRun no-S =
+    onCpus 2 1
+    (drawn 0 9 "1" "R"
+    ∷ drawn 0 1 "1" "a"
+    ∷ [])
+-- the first runs, with a lock that the second does not use, or without
+smallRun no-O =
+    onCpus 1 1
+    (drawn 0 9 "1" "R"
+    ∷ drawn 0 1 "-" "."
+    ∷ [])
+smallRun no-F =
+    onCpus 1 1
+    (drawn 0 9 "-" "r"
+    ∷ drawn 0 1 "-" "."
+    ∷ [])
+-- the third runs at the priority of the first, and then the first, before the second
+smallRun no-L =
+    onCpus 1 1
+    (drawn 0 9 "1" "aR"
+    ∷ drawn 0 2 "-" ".."
+    ∷ drawn 0 9 "1" "R."
+    ∷ [])
+-- the first waits for the second at its first request, and for the third at its second
+smallRun once-a-lock =
+    onCpus 1 0
+    (drawn 0 4 "1-1" "aRra"
+    ∷ drawn 0 9 "1" "R..."
+    ∷ drawn 0 9 "1" "...R"
+    ∷ [])
+-- as without L
+smallRun next-ceiling =
+    onCpus 1 1
+    (drawn 0 9 "1" "aR"
+    ∷ drawn 0 2 "-" ".."
+    ∷ drawn 0 9 "1" "R."
+    ∷ [])
+-- nobody is in the way
+smallRun one-less = onCpus 1 0 (drawn 0 1 "--" "r" ∷ [])
+
+module _ (b : BrokenRun) where
+  abbrev pub pictureOf : Picture
+  pictureOf =
+      record { first = map (λ t. t .first) (b .tasks); gaps = map (λ t. 20) (b .tasks); round = 20; units = map (λ t. t .units) (b .tasks); doing = map (λ t. t .doing) (b .tasks) }
+
+  abbrev pub lengthsOf : ℕ → ℕ
+  lengthsOf i = getD (map (λ t. t .bound) (b .tasks)) i 0
+
+  -- how many units a task's job has, how many with the lock, of which there is one, and how many requests
+  abbrev runOfTask : ℕ → ℕ
+  runOfTask l = jobsOf pictureOf .cost l 0
+
+  abbrev lockedOfTask : ℕ → ℕ
+  lockedOfTask l = countTo (runOfTask l) (inLock (jobsOf pictureOf) l 0 0)
+
+  abbrev requestsOfTask : ℕ → ℕ
+  requestsOfTask l = countTo (runOfTask l) (λ u. inLock (jobsOf pictureOf) l 0 0 u && jobsOf pictureOf .starts l 0 u)
+
+  -- a table whose figures the jobs come up to, with T 20 and D 10 for all
+  abbrev pub systemOf : View
+  systemOf =
+      record {
+        cpus = b .cpus;
+        n = length (b .tasks);
+        T = λ l. 20;
+        C = λ l. runOfTask (pred (l .0));
+        D = λ l. 10;
+        N = λ l k. only (eqb (k .0) 1) (requestsOfTask (pred (l .0)));
+        c = λ l k. only (eqb (k .0) 1) (lockedOfTask (pred (l .0)));
+        CT = λ l k. only (eqb (k .0) 1) (lockedOfTask (pred (l .0)));
+      }
+
+-- ---- no fact is broken
+
+-- Two processors. The first task has D 3 and waits up to 5 for the third, so it has no bound. The second shares a lock with it, and has the bound 4
+abbrev lateRows : List (List Pair)
+lateRows =
+    (aPair 1 1 1 ∷ aPair 1 1 1 ∷ [])
+    ∷ (unusedPair ∷ aPair 2 1 2 ∷ [])
+    ∷ (aPair 1 5 5 ∷ [])
+    ∷ []
+
+abbrev latePairs : Level → Resource → Pair
+latePairs l k = getD (getD lateRows (pred (l .0)) []) (pred (k .0)) unusedPair
+
+unfoldable pub lateSystem : View
+lateSystem =
+    record {
+      cpus = 2;
+      n = 3;
+      T = λ l. getD (6 ∷ 20 ∷ 20 ∷ []) (pred (l .0)) 0;
+      C = λ l. getD (3 ∷ 3 ∷ 5 ∷ []) (pred (l .0)) 0;
+      D = λ l. getD (3 ∷ 20 ∷ 20 ∷ []) (pred (l .0)) 0;
+      N = λ l k. latePairs l k .requests;
+      c = λ l k. latePairs l k .longest;
+      CT = λ l k. latePairs l k .total;
+    }
+
+-- The first job of the first task is so late that the second follows it at once: the second task waits for the lock of each, at 7 and at 10, and its demand has one of them
+abbrev pub latePicture : Picture
+latePicture =
+    record {
+      first = 0 ∷ 7 ∷ 0 ∷ [];
+      gaps = 6 ∷ 20 ∷ 20 ∷ [];
+      units = bytes "1-2" ∷ bytes "2-2" ∷ bytes "11111" ∷ [];
+      doing =
+          bytes "aaaaaRrRRrR"
+          ∷ bytes ".......aRra"
+          ∷ bytes "RRRRR......"
+          ∷ [];
+      round = 20;
+    }
