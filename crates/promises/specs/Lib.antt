@@ -10,6 +10,7 @@
 --   Rounds    request 6/12: how many rounds a verdict takes, at most D − C + 1, and what an allowance of them makes of it
 --   Reads     which figures of a table a verdict reads, and of which tasks; a run time changes nothing for the tasks above it
 --   EachRead  tables that show it, computed
+--   Responds  what a report promises about the console: in every run on a kernel of the kind presumed, no job takes longer than its row prints
 --   Points    the paper's points marked P, two of them as request 3/12 has them, and the reports with request 6/12's rounds
 --   Words     what these are made of
 pub mod Words
@@ -24,4 +25,5 @@ pub mod Salvages
 pub mod Rounds
 pub mod Reads
 pub mod EachRead
+pub mod Responds
 pub mod Points

@@ -1,0 +1,112 @@
+-- The bounds that are printed are bounds on response times.
+-- Assumes nothing.
+use Prim.Native.Nat.{ℕ, _<_}
+use mathlib.Core.Path.{_≡_, refl, sym, ap, _∙_}
+use mathlib.Core.Bool.{Bool, true}
+use mathlib.Core.List.{List}
+use mathlib.Core.Logic.{_⊎_, inl, inr}
+use native.Mathlib.Omega.{arith}
+use lib.ListN.{getD}
+use Rattle.basics.specs.Over.{sumTo}
+use Rattle.basics.specs.Text.{bytes}
+use Rattle.table.specs.declared.Pair.{Pair}
+use Rattle.table.specs.declared.Table.{Table}
+use Rattle.table.specs.declared.Checked.the-variants.{Fine}
+use Rattle.table.specs.Empty.{unusedPair, emptyTask, emptyTable}
+use Rattle.table.specs.Answers.{accepted}
+use Rattle.table.specs.Faults.{firstFault}
+use Rattle.table.specs.Accepted.{GoodPair}
+use Rattle.table.specs.Rules.{timesInRange, timesInOrder, timesFault, isUnused, usedInRange, pairInRange, totalsFit, pairFault, pairsFault, taskFault, tasksFault, tableFault}
+use Rattle.table.proofs.Acceptance.{fine-accepted}
+use Rattle.theory.specs.declared.Verdict.the-variants.{Meets}
+use Rattle.field.specs.Number.{rounded, fraction, timeField, countField}
+use Rattle.line.specs.Fields.{fieldCount}
+use Rattle.line.specs.Line.{cpusLine, taskLine, useLine, lineSays}
+use Rattle.listing.specs.Read.{pastAfter, newTask, tableAfter, readEnd, readLines, readListing}
+use Rattle.theory.specs.declared.Counted.{Counted}
+use Rattle.theory.specs.Work.{workload}
+use Rattle.page.specs.Report.{reportAllowance}
+use Rattle.theory.specs.View.{level}
+use Rattle.theory.specs.Demand.{allCT}
+use Rattle.theory.specs.Bound.{Least}
+use Rattle.theory.specs.Tables.{viewOf, countedIn}
+use Rattle.theory.proofs.WorkLaws.{workload-rises}
+use Rattle.schedules.specs.Theorem.{Constrained, Closed}
+use Rattle.schedules.specs.Shown.{shownTable, shownBounds}
+use Rattle.schedules.proofs.TheoremHolds.{theorem1-holds}
+use Rattle.schedules.proofs.ShownHolds.{shown-holds}
+use Rattle.analysis.specs.declared.Answer.the-variants.{Known}
+use Rattle.analysis.specs.Answers.{boundOf}
+use Rattle.analysis.proofs.ByRounds.{rounds-right, known}
+use Rattle.promises.specs.Demand2.{demandIn, deadlineIn}
+use Rattle.promises.specs.Rounds.{PrintsRows}
+use Rattle.promises.specs.Responds.{NoJobLonger, RowsMeet, ReadNoOther, shownListing, Responds}
+use Rattle.promises.proofs.Demand2Holds.{demand2}
+use Rattle.promises.proofs.RoundsHold.{rounds-hold}
+use Rattle.promises.proofs.ThreeTasks.{some-allowed}
+use Rattle.promises.proofs.ReadsLaws.{fine-fitting, units-read}
+
+no-requests : (p : Pair) → (p ≡ unusedPair) ⊎ GoodPair p → p .requests ≡ 0 → p .total ≡ 0
+no-requests p (inl e) z = ap (λ (q : Pair). q .total) e
+no-requests p (inr g) z = absurd (omega (arith, g .requests-least))
+
+fine-constrained : (t : Table) → tableFault t ≡ Fine → Constrained (viewOf t)
+unfolding allCT
+fine-constrained t e =
+    let a = fine-accepted t e in
+    record {
+      some = a .cpus-least;
+      positive = λ l h. let g = a .task l h .times in omega arith;
+      run = λ l h. a .task l h .times .run-deadline;
+      deadline = λ l h. a .task l h .times .deadline-period;
+      totals = λ l h. a .task l h .totals;
+      unused = λ l k h m z. no-requests _ (a .task l h .pair k m) z;
+    }
+
+-- what `bound` answers with `meets` is the least length that covers its demand
+met-least : (t : Table) (i allowance : ℕ) (r : Counted) (u : ℕ) → boundOf t (level i) allowance ≡ Known r → r .verdict ≡ Meets u → Least (demandIn t i) (deadlineIn t i) u
+unfolding countedIn
+met-least t i allowance r u e m =
+    let k = known t i allowance e in
+    let v : countedIn t allowance (level i) .verdict ≡ Meets u = ap (λ (c : Counted). c .verdict) (k .3) ∙ m in
+    rw v at (rounds-right workload workload-rises t i (k .0) (k .1) allowance)
+
+-- a set of tasks that read no others is closed
+reads-closed : (t : Table) → tableFault t ≡ Fine → (X : ℕ → Bool) → ReadNoOther t X → Closed (viewOf t) X
+reads-closed t fine X c i l h x k u = c i l h x k (units-read (viewOf t) (fine-fitting t fine) (level i) l k u)
+
+others-meet : (allowance : ℕ) (s : List ℕ) (t : Table) (row : ℕ → Counted) (X : ℕ → Bool) (micros : ℕ → ℕ) → PrintsRows allowance s t row
+    → ReadNoOther t X → RowsMeet t row X micros → NoJobLonger t X micros
+others-meet allowance s t row X micros p c m k pos J o S E r i h x =
+    let fine : tableFault t ≡ Fine = known t i allowance (p .answer i h) .0 in
+    let least : (i : ℕ) → i < t .n → X i ≡ true → Least (demandIn t i) (deadlineIn t i) (micros i) = λ i h x. met-least t i allowance (row i) (micros i) (p .answer i h) (m i h x) in
+    theorem1-holds .bounds (viewOf t) (fine-constrained t fine) X (reads-closed t fine X c) micros
+    (record { low = λ i h x. least i h x .low; high = λ i h x. least i h x .high; covers = λ i h x. least i h x .meets }) k pos J o S E r i h x
+
+shown-listing : readListing (bytes shownListing) ≡ accepted shownTable
+unfolding shownTable sumTo emptyTask emptyTable firstFault timesInRange timesInOrder timesFault isUnused usedInRange pairInRange totalsFit pairFault pairsFault taskFault tasksFault tableFault rounded fraction timeField countField fieldCount cpusLine taskLine useLine lineSays pastAfter newTask tableAfter readEnd readLines readListing
+shown-listing = refl
+
+shown-rows : (row : ℕ → Counted) × PrintsRows reportAllowance (bytes shownListing) shownTable row × RowsMeet shownTable row (λ i. true) (λ i. getD shownBounds i 0)
+unfolding shownTable
+shown-rows =
+    let p = rounds-hold .prints reportAllowance (bytes shownListing) shownTable some-allowed shown-listing in
+    (p .0, p .1, λ i h x. meets (p .0) (p .1) i h)
+  where
+    meets : (row : ℕ → Counted) → PrintsRows reportAllowance (bytes shownListing) shownTable row → (i : ℕ) → i < shownTable .n → row i .verdict ≡ Meets (getD shownBounds i 0)
+    meets row p i h =
+        let v = demand2 .verdicts shownTable i reportAllowance (shown-holds .accepted) h some-allowed in
+        let a = p .answer i h in
+        let same : v .0 ≡ row i = sym (known shownTable i reportAllowance (v .1) .3) ∙ known shownTable i reportAllowance a .3 in
+        ap (λ (c : Counted). c .verdict) (sym same) ∙ v .2 .meets (rounds-hold .never-open shownTable i (v .0) (v .1)) (getD shownBounds i 0) .1 (shown-holds .bounded i h)
+
+pub responds-hold : Responds
+responds-hold =
+    record {
+      all-meet = λ allowance s t row micros p m. others-meet allowance s t row (λ i. true) micros p (λ i l h x k u. refl) m;
+      others-meet = others-meet;
+      theorem1 = theorem1-holds;
+      shown = shown-holds;
+      shown-listing = shown-listing;
+      shown-rows = shown-rows;
+    }

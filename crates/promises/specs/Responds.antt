@@ -1,0 +1,54 @@
+-- What a report promises about the console itself: the report's Theorem 1, over every run of the tasks on a kernel of the kind that README tells in "What is presumed". `Jobs` and `Schedule` of `schedules` say what such a run is.
+use Prim.Native.Nat.{ℕ, _*_, _≤_, _<_}
+use Prim.Native.String.{String}
+use mathlib.Core.Path.{_≡_}
+use mathlib.Core.Bool.{Bool, true}
+use mathlib.Core.List.{List}
+use lib.ListN.{getD}
+use Rattle.basics.specs.Text.{bytes}
+use Rattle.table.specs.declared.Table.{Table}
+use Rattle.table.specs.Answers.{accepted}
+use Rattle.listing.specs.Read.{readListing}
+use Rattle.theory.specs.declared.Verdict.the-variants.{Meets}
+use Rattle.theory.specs.declared.Counted.{Counted}
+use Rattle.theory.specs.View.{level}
+use Rattle.theory.specs.Tables.{viewOf}
+use Rattle.schedules.specs.Jobs.{JobSet, Generated}
+use Rattle.schedules.specs.Schedule.{Schedule, UnderPIP, RespondsWithin}
+use Rattle.schedules.specs.Theorem.{Theorem1, finer}
+use Rattle.schedules.specs.Shown.{shownTable, shownBounds, Shown}
+use Rattle.page.specs.Report.{reportAllowance}
+use Rattle.promises.specs.Reads.{Reads}
+use Rattle.promises.specs.Rounds.{PrintsRows}
+
+-- in every run of the table's tasks, its instants being k-ths of a microsecond, no job of a task that X names takes longer than so many microseconds
+abbrev pub NoJobLonger : Table → (ℕ → Bool) → (ℕ → ℕ) → Type 0
+NoJobLonger t X micros =
+    (k : ℕ) → 1 ≤ k → (J : JobSet) → Generated (finer k (viewOf t)) J → (S : Schedule) (E : ℕ) → UnderPIP (finer k (viewOf t)) J S E
+    → (i : ℕ) → i < t .n → X i ≡ true → RespondsWithin J S E i (k * micros i)
+
+-- the rows of these tasks say `meets`, with so many microseconds
+abbrev pub RowsMeet : Table → (ℕ → Counted) → (ℕ → Bool) → (ℕ → ℕ) → Type 0
+RowsMeet t row X micros = (i : ℕ) → i < t .n → X i ≡ true → row i .verdict ≡ Meets (micros i)
+
+-- what each of these tasks reads is among them, and so is what that reads in turn
+abbrev pub ReadNoOther : Table → (ℕ → Bool) → Type 0
+ReadNoOther t X = (i l : ℕ) → i < t .n → X i ≡ true → l < t .n → Reads (viewOf t) (level i) (level l) → X l ≡ true
+
+-- the listing of the table of which `Shown` draws a run
+abbrev pub shownListing : String
+shownListing = "cpus 2\ntask 0.02 0.002 0.02\nuse 1 1 0.001 0.001\ntask 0.02 0.003 0.02\ntask 0.02 0.003 0.02\ntask 0.02 0.005 0.02\nuse 1 1 0.003 0.003\n"
+
+pub record Responds : Type 0 where
+  -- where a program, `report` or `bench`, says `meets` of every task of a listing, each job of a task is finished within the microseconds that its row prints
+  pub all-meet : (allowance : ℕ) (s : List ℕ) (t : Table) (row : ℕ → Counted) (micros : ℕ → ℕ) → PrintsRows allowance s t row
+      → RowsMeet t row (λ i. true) micros → NoJobLonger t (λ i. true) micros
+  -- Where a row says `misses` or `open`, nothing is promised of that task, nor of those that read it, directly or in turn: `all-read` of Theorem 1 has a run in which one of those is late. Of the others it is promised still
+  pub others-meet : (allowance : ℕ) (s : List ℕ) (t : Table) (row : ℕ → Counted) (X : ℕ → Bool) (micros : ℕ → ℕ) → PrintsRows allowance s t row
+      → ReadNoOther t X → RowsMeet t row X micros → NoJobLonger t X micros
+  -- the theorem itself, over views, and that none of the facts about a kernel can be left out of it
+  pub theorem1 : Theorem1
+  -- it is not said of nothing: there is a run without end of the table of a listing of which `report` says `meets` in every row, and in that run a job that takes as long as its row prints
+  pub shown : Shown
+  pub shown-listing : readListing (bytes shownListing) ≡ accepted shownTable
+  pub shown-rows : (row : ℕ → Counted) × PrintsRows reportAllowance (bytes shownListing) shownTable row × RowsMeet shownTable row (λ i. true) (λ i. getD shownBounds i 0)
