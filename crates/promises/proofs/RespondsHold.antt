@@ -1,11 +1,13 @@
 -- The bounds that are printed are bounds on response times.
 -- Assumes nothing.
-use Prim.Native.Nat.{ℕ, _<_}
-use mathlib.Core.Path.{_≡_, refl, sym, ap, _∙_}
+use Prim.Native.Nat.{ℕ, _+_, _*_, _≤_, _<_}
+use mathlib.Core.Path.{_≡_, refl, sym, subst, ap, _∙_}
 use mathlib.Core.Bool.{Bool, true}
 use mathlib.Core.List.{List}
 use mathlib.Core.Logic.{_⊎_, inl, inr}
+use native.Mathlib.Nat.{le-refl}
 use native.Mathlib.Omega.{arith}
+use lib.Dec.{eqb, lit<, lit≤}
 use lib.ListN.{getD}
 use Rattle.basics.specs.Over.{sumTo}
 use Rattle.basics.specs.Text.{bytes}
@@ -26,21 +28,25 @@ use Rattle.listing.specs.Read.{pastAfter, newTask, tableAfter, readEnd, readLin
 use Rattle.theory.specs.declared.Counted.{Counted}
 use Rattle.theory.specs.Work.{workload}
 use Rattle.page.specs.Report.{reportAllowance}
-use Rattle.theory.specs.View.{level}
+use Rattle.theory.specs.View.{View, level}
 use Rattle.theory.specs.Demand.{allCT}
 use Rattle.theory.specs.Bound.{Least}
 use Rattle.theory.specs.Tables.{viewOf, countedIn}
 use Rattle.theory.proofs.WorkLaws.{workload-rises}
+use Rattle.schedules.specs.Jobs.{Generated}
+use Rattle.schedules.specs.Schedule.{UnderPIP}
+use Rattle.schedules.specs.Picture.{jobsOf, runOf}
 use Rattle.schedules.specs.Theorem.{Constrained, Closed}
-use Rattle.schedules.specs.Shown.{shownTable, shownBounds}
+use Rattle.schedules.specs.Shown.{shownTable, shownBounds, missTable, missPicture}
 use Rattle.schedules.proofs.TheoremHolds.{theorem1-holds}
 use Rattle.schedules.proofs.ShownHolds.{shown-holds}
+use Rattle.schedules.proofs.MissHolds.{miss-holds}
 use Rattle.analysis.specs.declared.Answer.the-variants.{Known}
 use Rattle.analysis.specs.Answers.{boundOf}
 use Rattle.analysis.proofs.ByRounds.{rounds-right, known}
 use Rattle.promises.specs.Demand2.{demandIn, deadlineIn}
 use Rattle.promises.specs.Rounds.{PrintsRows}
-use Rattle.promises.specs.Responds.{NoJobLonger, RowsMeet, ReadNoOther, shownListing, Responds}
+use Rattle.promises.specs.Responds.{NoJobLonger, RowsMeet, ReadNoOther, shownListing, missListing, Responds}
 use Rattle.promises.proofs.Demand2Holds.{demand2}
 use Rattle.promises.proofs.RoundsHold.{rounds-hold}
 use Rattle.promises.proofs.ThreeTasks.{some-allowed}
@@ -87,26 +93,47 @@ shown-listing : readListing (bytes shownListing) ≡ accepted shownTable
 unfolding shownTable sumTo emptyTask emptyTable firstFault timesInRange timesInOrder timesFault isUnused usedInRange pairInRange totalsFit pairFault pairsFault taskFault tasksFault tableFault rounded fraction timeField countField fieldCount cpusLine taskLine useLine lineSays pastAfter newTask tableAfter readEnd readLines readListing
 shown-listing = refl
 
+miss-listing : readListing (bytes missListing) ≡ accepted missTable
+unfolding missTable sumTo emptyTask emptyTable firstFault timesInRange timesInOrder timesFault isUnused usedInRange pairInRange totalsFit pairFault pairsFault taskFault tasksFault tableFault rounded fraction timeField countField fieldCount cpusLine taskLine useLine lineSays pastAfter newTask tableAfter readEnd readLines readListing
+miss-listing = refl
+
+-- what `report` says of a task that has a bound
+least-met : (s : List ℕ) (t : Table) (row : ℕ → Counted) → PrintsRows reportAllowance s t row → (i u : ℕ) → i < t .n → Least (demandIn t i) (deadlineIn t i) u → row i .verdict ≡ Meets u
+least-met s t row p i u h l =
+    let k = known t i reportAllowance (p .answer i h) in
+    let v = demand2 .verdicts t i reportAllowance (k .0) h some-allowed in
+    let same : v .0 ≡ row i = sym (known t i reportAllowance (v .1) .3) ∙ k .3 in
+    ap (λ (c : Counted). c .verdict) (sym same) ∙ v .2 .meets (rounds-hold .never-open t i (v .0) (v .1)) u .1 l
+
 shown-rows : (row : ℕ → Counted) × PrintsRows reportAllowance (bytes shownListing) shownTable row × RowsMeet shownTable row (λ i. true) (λ i. getD shownBounds i 0)
 unfolding shownTable
 shown-rows =
     let p = rounds-hold .prints reportAllowance (bytes shownListing) shownTable some-allowed shown-listing in
-    (p .0, p .1, λ i h x. meets (p .0) (p .1) i h)
+    (p .0, p .1, λ i h x. least-met (bytes shownListing) shownTable (p .0) (p .1) i (getD shownBounds i 0) h (shown-holds .bounded i h))
+
+not-alone : ((allowance : ℕ) (s : List ℕ) (t : Table) (row : ℕ → Counted) (i u : ℕ) → PrintsRows allowance s t row → i < t .n → row i .verdict ≡ Meets u → NoJobLonger t (eqb i) (λ l. u)) → ⊥
+unfolding missTable jobsOf
+not-alone claim =
+    let p = rounds-hold .prints reportAllowance (bytes missListing) missTable some-allowed miss-listing in
+    let m = least-met (bytes missListing) missTable (p .0) (p .1) 1 4 (lit< tt) (miss-holds .meets) in
+    let e = sym (theorem1-holds .whole (viewOf missTable)) in
+    let g = subst (λ (v : View). Generated v (jobsOf missPicture)) e (miss-holds .generated) in
+    let r = subst (λ (v : View). UnderPIP v (jobsOf missPicture) (runOf missPicture) 11) e (miss-holds .scheduled) in
+    miss-holds .longer (claim reportAllowance (bytes missListing) missTable (p .0) 1 4 (p .1) (lit< tt) m 1 (le-refl 1) (jobsOf missPicture) g (runOf missPicture) 11 r 1 (lit< tt) refl 0 11 due (le-refl 11))
   where
-    meets : (row : ℕ → Counted) → PrintsRows reportAllowance (bytes shownListing) shownTable row → (i : ℕ) → i < shownTable .n → row i .verdict ≡ Meets (getD shownBounds i 0)
-    meets row p i h =
-        let v = demand2 .verdicts shownTable i reportAllowance (shown-holds .accepted) h some-allowed in
-        let a = p .answer i h in
-        let same : v .0 ≡ row i = sym (known shownTable i reportAllowance (v .1) .3) ∙ known shownTable i reportAllowance a .3 in
-        ap (λ (c : Counted). c .verdict) (sym same) ∙ v .2 .meets (rounds-hold .never-open shownTable i (v .0) (v .1)) (getD shownBounds i 0) .1 (shown-holds .bounded i h)
+    due : jobsOf missPicture .release 1 0 + 1 * 4 ≤ 11
+    due = lit≤ tt
 
 pub responds-hold : Responds
 responds-hold =
     record {
       all-meet = λ allowance s t row micros p m. others-meet allowance s t row (λ i. true) micros p (λ i l h x k u. refl) m;
       others-meet = others-meet;
+      not-alone = not-alone;
       theorem1 = theorem1-holds;
       shown = shown-holds;
       shown-listing = shown-listing;
       shown-rows = shown-rows;
+      beside-miss = miss-holds;
+      miss-listing = miss-listing;
     }

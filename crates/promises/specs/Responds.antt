@@ -4,6 +4,7 @@ use Prim.Native.String.{String}
 use mathlib.Core.Path.{_≡_}
 use mathlib.Core.Bool.{Bool, true}
 use mathlib.Core.List.{List}
+use lib.Dec.{eqb}
 use lib.ListN.{getD}
 use Rattle.basics.specs.Text.{bytes}
 use Rattle.table.specs.declared.Table.{Table}
@@ -16,7 +17,7 @@ use Rattle.theory.specs.Tables.{viewOf}
 use Rattle.schedules.specs.Jobs.{JobSet, Generated}
 use Rattle.schedules.specs.Schedule.{Schedule, UnderPIP, RespondsWithin}
 use Rattle.schedules.specs.Theorem.{Theorem1, finer}
-use Rattle.schedules.specs.Shown.{shownTable, shownBounds, Shown}
+use Rattle.schedules.specs.Shown.{shownTable, shownBounds, Shown, missTable, BesideMiss}
 use Rattle.page.specs.Report.{reportAllowance}
 use Rattle.promises.specs.Reads.{Reads}
 use Rattle.promises.specs.Rounds.{PrintsRows}
@@ -35,20 +36,28 @@ RowsMeet t row X micros = (i : ℕ) → i < t .n → X i ≡ true → row i .ver
 abbrev pub ReadNoOther : Table → (ℕ → Bool) → Type 0
 ReadNoOther t X = (i l : ℕ) → i < t .n → X i ≡ true → l < t .n → Reads (viewOf t) (level i) (level l) → X l ≡ true
 
--- the listing of the table of which `Shown` draws a run
+-- the listings of the tables of which `Shown` draws a run: all tasks meet; the first misses
 abbrev pub shownListing : String
 shownListing = "cpus 2\ntask 0.02 0.002 0.02\nuse 1 1 0.001 0.001\ntask 0.02 0.003 0.02\ntask 0.02 0.003 0.02\ntask 0.02 0.005 0.02\nuse 1 1 0.003 0.003\n"
+
+abbrev pub missListing : String
+missListing = "cpus 2\ntask 0.006 0.003 0.003\nuse 1 1 0.001 0.001\nuse 2 1 0.001 0.001\ntask 0.02 0.003 0.02\nuse 2 2 0.001 0.002\ntask 0.02 0.005 0.02\nuse 1 1 0.005 0.005\n"
 
 pub record Responds : Type 0 where
   -- where a program, `report` or `bench`, says `meets` of every task of a listing, each job of a task is finished within the microseconds that its row prints
   pub all-meet : (allowance : ℕ) (s : List ℕ) (t : Table) (row : ℕ → Counted) (micros : ℕ → ℕ) → PrintsRows allowance s t row
       → RowsMeet t row (λ i. true) micros → NoJobLonger t (λ i. true) micros
-  -- Where a row says `misses` or `open`, nothing is promised of that task, nor of those that read it, directly or in turn: `all-read` of Theorem 1 has a run in which one of those is late. Of the others it is promised still
+  -- Where a row says `misses` or `open`, nothing is promised of that task, nor of those that read it, directly or in turn. Of the others it is promised still
   pub others-meet : (allowance : ℕ) (s : List ℕ) (t : Table) (row : ℕ → Counted) (X : ℕ → Bool) (micros : ℕ → ℕ) → PrintsRows allowance s t row
       → ReadNoOther t X → RowsMeet t row X micros → NoJobLonger t X micros
+  -- that a row itself says `meets` is not enough
+  pub not-alone : ((allowance : ℕ) (s : List ℕ) (t : Table) (row : ℕ → Counted) (i u : ℕ) → PrintsRows allowance s t row → i < t .n → row i .verdict ≡ Meets u → NoJobLonger t (eqb i) (λ l. u)) → ⊥
   -- the theorem itself, over views, and that none of the facts about a kernel can be left out of it
   pub theorem1 : Theorem1
   -- it is not said of nothing: there is a run without end of the table of a listing of which `report` says `meets` in every row, and in that run a job that takes as long as its row prints
   pub shown : Shown
   pub shown-listing : readListing (bytes shownListing) ≡ accepted shownTable
   pub shown-rows : (row : ℕ → Counted) × PrintsRows reportAllowance (bytes shownListing) shownTable row × RowsMeet shownTable row (λ i. true) (λ i. getD shownBounds i 0)
+  -- and one of a listing in which the first row says `misses`, and the second task takes longer than its row prints
+  pub beside-miss : BesideMiss
+  pub miss-listing : readListing (bytes missListing) ≡ accepted missTable

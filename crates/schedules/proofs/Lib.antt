@@ -20,7 +20,9 @@
 --   TheoremHolds     theorem1-holds
 --   AlikeLaws        two instants that are alike: fact-alike
 --   RepeatLaws       a run that repeats: repeats
+--   LeastByTest      least-by-test, none-by-test
 --   ShownHolds       shown-holds
+--   MissHolds        miss-holds
 pub mod FactLaws
 pub mod ProgressLaws
 pub mod TallyLaws
@@ -45,4 +47,6 @@ pub mod NeededHolds
 pub mod TheoremHolds
 pub mod AlikeLaws
 pub mod RepeatLaws
+pub mod LeastByTest
 pub mod ShownHolds
+pub mod MissHolds

@@ -10,11 +10,13 @@ use Rattle.theory.specs.Work.{uncapped, workload, jobs, ceilDiv}
 use Rattle.theory.specs.View.{View, ceiling}
 use Rattle.theory.specs.Demand.{sharedCT, otherCT, allCT, highCT, DB, S, O, F, L, demandWith, demandOf}
 use Rattle.schedules.specs.Jobs.{JobSet}
+use Rattle.theory.specs.Tables.{viewOf}
 use Rattle.schedules.specs.Schedule.{Schedule, onward, progress, priority, gotAfter, KernelFact, runs-pending, runs-locked, conserves, one-holder, holds-pending, holds-lock, keeps, goes-on, asked-on, not-past, UnderPIP}
 use Rattle.schedules.specs.Wrong.{UnderPIPBut, OtherKernel, spins, no-inheritance, aheadIn, UnderOther, WrongDemand, no-DB, no-S, no-O, no-F, no-L, once-a-lock, next-ceiling, one-less, wrongDemand}
 use Rattle.schedules.specs.Theorem.{Closed, NoneLonger, finer}
 use Rattle.schedules.specs.Picture.{jobsOf, runOf}
-use Rattle.schedules.specs.Broken.{BrokenRun, brokenRun, otherRun, smallRun, pictureOf, lengthsOf, systemOf, lateSystem, latePicture}
+use Rattle.schedules.specs.Broken.{BrokenRun, brokenRun, otherRun, smallRun, pictureOf, lengthsOf, systemOf}
+use Rattle.schedules.specs.Shown.{missTable, missPicture}
 use Rattle.schedules.proofs.FactsByTest.{factTest}
 use Rattle.schedules.proofs.GeneratedByTest.{generatedRules}
 use Rattle.schedules.proofs.CoveredByTest.{constrainedRules, coversRules}
@@ -82,6 +84,6 @@ terms-holds next-ceiling = small next-ceiling (smallRun next-ceiling) refl refl
 terms-holds one-less = small one-less (smallRun one-less) refl refl
 
 pub all-read-holds : NoneLonger demandOf (λ v X. Unit) UnderPIP → ⊥
-unfolding lateSystem sumTo maxTo allTo firstTo uncapped workload jobs ceilDiv ceiling sharedCT otherCT allCT highCT DB S O F L demandWith onward progress priority gotAfter jobsOf runOf factTest generatedRules constrainedRules coversRules refutingRules
+unfolding missTable sumTo maxTo allTo firstTo uncapped workload jobs ceilDiv ceiling sharedCT otherCT allCT highCT DB S O F L demandWith onward progress priority gotAfter jobsOf runOf factTest generatedRules constrainedRules coversRules refutingRules
 all-read-holds =
-    refuted demandOf lateSystem latePicture (λ l. eqb l 1) (λ l. 4) 1 (λ v X. Unit) UnderPIP refl tt (pip-by-test (finer 1 lateSystem) (jobsOf latePicture) (runOf latePicture) 11 refl)
+    refuted demandOf (viewOf missTable) missPicture (λ l. eqb l 1) (λ l. 4) 1 (λ v X. Unit) UnderPIP refl tt (pip-by-test (finer 1 (viewOf missTable)) (jobsOf missPicture) (runOf missPicture) 11 refl)

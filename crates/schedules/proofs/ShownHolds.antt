@@ -2,15 +2,13 @@
 -- Assumes nothing.
 use Prim.Native.Nat.{ℕ, zero, suc, _+_, _≤_, _<_}
 use mathlib.Core.Path.{_≡_, refl}
-use mathlib.Core.Bool.{Bool, true, _&&_}
+use mathlib.Core.Bool.{true}
 use native.Mathlib.Omega.{arith}
-use native.Mathlib.Decide.{decLt}
-use borrow.Author.Tests.{leb-true, ltb-true}
-use lib.Dec.{leb, ltb, lit<}
+use borrow.Author.Tests.{leb-true}
+use lib.Dec.{leb, lit<}
 use lib.ListN.{getD}
 use Rattle.basics.specs.Choice.{only}
 use Rattle.basics.specs.Over.{sumTo, maxTo, allTo, firstTo, countTo}
-use Rattle.basics.proofs.ChoiceLaws.{and-true}
 use Rattle.basics.proofs.AllLaws.{all-at}
 use Rattle.basics.proofs.SumLaws.{sum-eq}
 use Rattle.table.specs.declared.Checked.the-variants.{Fine}
@@ -28,6 +26,7 @@ use Rattle.schedules.specs.Picture.{jobsOf, runOf}
 use Rattle.schedules.specs.Shown.{shownTable, shownBounds, shownPicture, shownJobs, shownRun, Shown}
 use Rattle.schedules.proofs.FactsByTest.{factTest, fact-by-test}
 use Rattle.schedules.proofs.GeneratedByTest.{generatedRules, generated-by-test}
+use Rattle.schedules.proofs.LeastByTest.{leastTest, least-by-test}
 use Rattle.schedules.proofs.RepeatLaws.{round-after-round, runs-again, repeats}
 
 abbrev shownView : View
@@ -36,21 +35,6 @@ shownView = viewOf shownTable
 accepted : tableFault shownTable ≡ Fine
 unfolding shownTable sumTo firstFault timesInRange timesInOrder timesFault isUnused usedInRange pairInRange totalsFit pairFault pairsFault taskFault tasksFault tableFault
 accepted = refl
-
--- a bound is small here, so each length below it can be tried
-abbrev leastTest : (ℕ → ℕ) → ℕ → ℕ → Bool
-leastTest f D t = (leb 1 t && leb t D) && (leb (f t) t && allTo t (λ s. ltb s (f s)))
-
-least-by-test : (f : ℕ → ℕ) (D t : ℕ) → leastTest f D t ≡ true → Least f D t
-least-by-test f D t e =
-    let a = and-true (leb 1 t && leb t D) _ e in
-    let b = and-true (leb 1 t) _ (a .0) in
-    let c = and-true (leb (f t) t) _ (a .1) in
-    record { low = leb-true _ _ (b .0); high = leb-true _ _ (b .1); meets = leb-true _ _ (c .0); least = λ s p k. go s k (c .1) (decLt s t) }
-  where
-    go : (s : ℕ) → f s ≤ s → allTo t (λ s. ltb s (f s)) ≡ true → Dec (s < t) → t ≤ s
-    go s k h (yes d) = absurd (omega (arith, ltb-true s (f s) (all-at t s _ h d)))
-    go s k h (no d) = omega arith
 
 bounded-test : allTo 4 (λ i. leastTest (demandOf shownView (level i)) (shownView .D (level i)) (getD shownBounds i 0)) ≡ true
 unfolding shownTable sumTo maxTo allTo firstTo uncapped workload jobs ceilDiv ceiling sharedCT otherCT allCT highCT DB S O F L demandWith

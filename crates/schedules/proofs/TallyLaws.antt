@@ -65,10 +65,6 @@ pub among-suc : (w : ℕ → Bool) (k : ℕ) → among w (suc k) ≡ w k
 unfolding among
 among-suc w k = refl
 
-pub among-zero : (w : ℕ → Bool) → among w 0 ≡ false
-unfolding among
-among-zero w = refl
-
 by-lock : (M : ℕ) (w : ℕ → Bool) (x : ℕ) → x ≤ M → only (among w x) 1 ≤ sumTo M (λ k. only (w k) (only (eqb x (suc k)) 1))
 unfolding among
 by-lock M w zero h = zero-le

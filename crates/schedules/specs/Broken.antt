@@ -1,4 +1,4 @@
--- Runs in which a job takes longer than its task's length: for each fact about a kernel one in which it alone is broken; on kernels of other kinds; with smaller demands; and one of a task that has a bound, and reads one that has none.
+-- Runs in which a job takes longer than its task's length: for each fact about a kernel one in which it alone is broken; on kernels of other kinds; and with smaller demands.
 use Prim.Native.Nat.{ℕ, pred}
 use Prim.Native.String.{String}
 use mathlib.Core.Bool.{_&&_}
@@ -8,11 +8,6 @@ use lib.ListN.{length, getD}
 use Rattle.basics.specs.Choice.{only}
 use Rattle.basics.specs.Over.{countTo}
 use Rattle.basics.specs.Text.{bytes}
-use Rattle.table.specs.declared.Level.{Level}
-use Rattle.table.specs.declared.Resource.{Resource}
-use Rattle.table.specs.declared.Pair.{Pair}
-use Rattle.table.specs.Empty.{unusedPair}
-use Rattle.table.specs.At.{aPair}
 use Rattle.theory.specs.View.{View}
 use Rattle.schedules.specs.Jobs.{inLock}
 use Rattle.schedules.specs.Schedule.{KernelFact, runs-pending, runs-locked, conserves, one-holder, holds-pending, holds-lock, keeps, goes-on, asked-on, not-past}
@@ -200,44 +195,3 @@ module _ (b : BrokenRun) where
         c = λ l k. only (eqb (k .0) 1) (lockedOfTask (pred (l .0)));
         CT = λ l k. only (eqb (k .0) 1) (lockedOfTask (pred (l .0)));
       }
-
--- ---- no fact is broken
-
--- Two processors. The first task has D 3 and waits up to 5 for the third, so it has no bound. The second shares a lock with it, and has the bound 4
-abbrev lateRows : List (List Pair)
-lateRows =
-    (aPair 1 1 1 ∷ aPair 1 1 1 ∷ [])
-    ∷ (unusedPair ∷ aPair 2 1 2 ∷ [])
-    ∷ (aPair 1 5 5 ∷ [])
-    ∷ []
-
-abbrev latePairs : Level → Resource → Pair
-latePairs l k = getD (getD lateRows (pred (l .0)) []) (pred (k .0)) unusedPair
-
-unfoldable pub lateSystem : View
-lateSystem =
-    record {
-      cpus = 2;
-      n = 3;
-      T = λ l. getD (6 ∷ 20 ∷ 20 ∷ []) (pred (l .0)) 0;
-      C = λ l. getD (3 ∷ 3 ∷ 5 ∷ []) (pred (l .0)) 0;
-      D = λ l. getD (3 ∷ 20 ∷ 20 ∷ []) (pred (l .0)) 0;
-      N = λ l k. latePairs l k .requests;
-      c = λ l k. latePairs l k .longest;
-      CT = λ l k. latePairs l k .total;
-    }
-
--- The first job of the first task is so late that the second follows it at once: the second task waits for the lock of each, at 7 and at 10, and its demand has one of them
-abbrev pub latePicture : Picture
-latePicture =
-    record {
-      first = 0 ∷ 7 ∷ 0 ∷ [];
-      gaps = 6 ∷ 20 ∷ 20 ∷ [];
-      units = bytes "1-2" ∷ bytes "2-2" ∷ bytes "11111" ∷ [];
-      doing =
-          bytes "aaaaaRrRRrR"
-          ∷ bytes ".......aRra"
-          ∷ bytes "RRRRR......"
-          ∷ [];
-      round = 20;
-    }
