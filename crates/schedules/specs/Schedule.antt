@@ -1,6 +1,6 @@
 -- Schedules under global fixed priorities with priority inheritance (the report's section II-A from "Multiprocessor scheduling" on, and III-A), by what holds at each instant, and not by how a kernel brings it about. It takes no time for that.
--- Some things are left open, since the theorem needs none of them: that no more than m run; whether a lock is handed over at once, or taken when its next holder is scheduled; whether a job asks for it before it is scheduled; which of two that
--- ask at one instant gets it.
+-- Some things are left open, since the theorem needs none of them: that no more than m run; whether a lock is handed over at once, or taken when its next holder is scheduled; whether a job asks for it before it is scheduled,
+-- or even before it is there; which of two that ask at one instant gets it.
 use Prim.Native.Nat.{ℕ, zero, suc, _+_, _≤_, _<_}
 use mathlib.Core.Path.{_≡_}
 use mathlib.Core.Bool.{Bool, true, false, not, _&&_, _||_}

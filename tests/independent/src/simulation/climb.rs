@@ -1,27 +1,37 @@
 //! Hill climbing towards a later finish: jobs are drawn around the release of a target, and a random change is kept if the target's largest response
-//! time does not fall. Every job of every task of every schedule on the way is held to its task's bound.
+//! time does not fall. Every job of every task of every schedule on the way is held to its task's bound, and some schedules to the model's facts.
 
+use super::facts::{self, Found};
 use super::kernel::Finishes;
 use super::scenario::{largest, Late, Scenario};
-use super::{change, draw, jobs};
+use super::{change, draw, generated, jobs};
 use crate::listing;
 use crate::random::Random;
 use crate::table::Table;
 
 /// About so many jobs are drawn at most before the target's release.
 const BEFORE: f64 = 40.0;
+/// Of so many schedules one is held to the facts of the model, besides those that are audited: more would take too long.
+const ONE_IN: u64 = 8;
 
 /// How much was simulated.
 #[derive(Clone, Copy, Default)]
 pub struct Count {
     pub schedules: u64,
     pub jobs: u64,
+    /// The schedules that were held to the facts of the model, the instants of these, and how many were looked at: the others are like them.
+    pub held: u64,
+    pub instants: u64,
+    pub looked_at: u64,
 }
 
 impl Count {
     pub fn add(&mut self, more: Count) {
         self.schedules += more.schedules;
         self.jobs += more.jobs;
+        self.held += more.held;
+        self.instants += more.instants;
+        self.looked_at += more.looked_at;
     }
 }
 
@@ -71,8 +81,8 @@ impl<'a> Search<'a> {
     /// Simulates, and holds every job to its bound. If one is late, the schedule is audited: it must be one of the model.
     fn within_bounds(&mut self, scenario: &Scenario) -> Result<Finishes, Box<Late>> {
         assert!(jobs::may_be(self.table, &scenario.jobs), "jobs out of their limits:\n{}{}", listing::write(self.table), scenario.text());
-        let finishes = scenario.kernel.finishes(self.table.m, &scenario.jobs);
         self.count.schedules += 1;
+        let finishes = if self.count.schedules % ONE_IN == 0 { self.hold(scenario) } else { scenario.kernel.finishes(self.table.m, &scenario.jobs) };
         for (task, (jobs, finishes)) in scenario.jobs.iter().zip(&finishes).enumerate() {
             self.count.jobs += jobs.len() as u64;
             let response = largest(jobs, finishes);
@@ -85,9 +95,24 @@ impl<'a> Search<'a> {
         Ok(finishes)
     }
 
-    fn audit(&self, scenario: &Scenario) {
+    fn audit(&mut self, scenario: &Scenario) {
         if let Err(fault) = scenario.audited(self.table.m) {
             panic!("not a schedule of the model: {fault}\n{}{}", listing::write(self.table), scenario.text());
         }
+        self.hold(scenario);
+    }
+
+    /// Simulates, and holds the jobs and the schedule to the facts of the model.
+    fn hold(&mut self, scenario: &Scenario) -> Finishes {
+        let (finishes, intervals) = scenario.kernel.schedule(self.table.m, &scenario.jobs);
+        let jobs = generated::job_set(&scenario.jobs);
+        let Found { broken, looked_at } = facts::in_intervals(self.table.m, &jobs, &intervals);
+        if let Some(broken) = generated::broken(self.table, &jobs).iter().chain(&broken).next() {
+            panic!("a fact of the proved model is broken: {broken}\n{}{}", listing::write(self.table), scenario.text());
+        }
+        self.count.held += 1;
+        self.count.instants += intervals.last().map_or(0, |last| last.to);
+        self.count.looked_at += looked_at;
+        finishes
     }
 }

@@ -2,10 +2,13 @@
 //! from the report's sections II, III-A and IV, which knows nothing of workloads.
 
 mod audit;
+mod broken;
 mod change;
 mod climb;
 mod closeness;
 mod draw;
+mod facts;
+mod generated;
 mod jobs;
 mod kernel;
 mod page;
@@ -20,7 +23,7 @@ mod systems;
 mod wrong;
 
 use crate::random::Random;
-use climb::Search;
+use climb::{Count, Search};
 use printed::Report;
 use scenario::Late;
 use search::{System, Tried};
@@ -75,7 +78,10 @@ fn ended(result: Result<(), Stop>) -> ExitCode {
 fn try_all(path: &str) -> Result<(), Stop> {
     let report = Report::new(path)?;
     println!("schedules by hand: {} as worked out on paper, {} replayed as told", pins::hold(), replays::hold(&report)?);
-    println!("schedules spoiled on purpose: {} found out by the audit", spoiled::hold());
+    let (spoiled, in_fact) = spoiled::hold();
+    println!("schedules spoiled on purpose: {spoiled} found out by the audit, {in_fact} of them by a fact of the proved model too");
+    let (kernel, jobs) = broken::hold();
+    println!("facts of the proved model broken on purpose, each alone: {kernel} about the kernel and {jobs} about jobs found by name");
     println!("wrong analyses refuted, each by a job that is later than its bound");
     for wrong in &wrong::ALL {
         let (systems, count) = wrong.refuted(&report)?;
@@ -88,8 +94,10 @@ fn try_all(path: &str) -> Result<(), Stop> {
 }
 
 fn say(kind: &str, Tried { drawn, searched, count }: &Tried) {
+    let Count { schedules, jobs, held, instants, looked_at } = count;
     println!("{kind} systems in which all tasks meet: {searched} searched, of {drawn}");
-    println!("  {} schedules, {} jobs, none later than its bound", count.schedules, count.jobs);
+    println!("  {schedules} schedules, {jobs} jobs, none later than its bound");
+    println!("  {held} of the schedules held to the facts of the proved model: {instants} instants, {looked_at} looked at, the others like them");
 }
 
 /// Towards a later finish of tasks that are picked at random, of those that others can delay if there are any.

@@ -66,7 +66,7 @@ impl Pin {
             let kernel = Kernel { granting, inheritance: Inheritance::Waiting, wait: Wait::Suspended, order };
             assert_eq!(kernel.finishes(self.m, &jobs), finishes, "{}: the finishes under {kernel:?}", self.what);
             let scenario = Scenario { jobs: jobs.clone(), kernel };
-            assert_eq!(scenario.audited(self.m), Ok(()), "{}: the schedule under {kernel:?}", self.what);
+            assert_eq!((scenario.audited(self.m), scenario.breaks(self.m)), (Ok(()), vec![]), "{}: the schedule under {kernel:?}", self.what);
         }
     }
 }

@@ -5,7 +5,7 @@ use super::jobs::{free, may_be, request, Job, Jobs, Segment};
 use super::kernel::{Granting, Inheritance, Kernel, Wait, ORDERS};
 use super::printed::Report;
 use super::scenario::Scenario;
-use super::Stop;
+use super::{generated, Stop};
 use crate::{cases, listing};
 
 /// A kernel but for its order of events at one instant, which does not matter in these schedules: each is replayed in several.
@@ -29,6 +29,8 @@ struct Replay {
     bound: u64,
     response: u64,
     ways: &'static [Way],
+    /// The facts of the proved model that such kernels break here.
+    breaks: &'static [&'static str],
     jobs: Jobs,
 }
 
@@ -41,6 +43,7 @@ fn replays() -> Vec<Replay> {
             bound: 6_000,
             response: 13_000,
             ways: &RIGHT,
+            breaks: &[],
             jobs: vec![
                 alike(&[0, 6_000, 12_000, 18_000, 24_000, 30_000], &[free(3_000)]),
                 alike(&[0, 6_000, 12_000, 18_000, 27_000, 33_000], &[free(3_000)]),
@@ -55,6 +58,7 @@ fn replays() -> Vec<Replay> {
             bound: 10_000,
             response: 10_800,
             ways: &RIGHT,
+            breaks: &[],
             jobs: vec![
                 alike(&[10_200, 16_200], &[request(0, 1_000)]),
                 alike(&[10_200, 16_200], &[free(3_000)]),
@@ -70,6 +74,7 @@ fn replays() -> Vec<Replay> {
             bound: 3_000,
             response: 3_800,
             ways: &RIGHT,
+            breaks: &[],
             jobs: vec![
                 vec![Job::new(1_500, &[request(0, 1_000), request(1, 1_000)]), Job::new(7_500, &[request(1, 1_000), request(0, 1_000)])],
                 alike(&[6_200], &[request(1, 1_000), request(1, 1_000)]),
@@ -83,6 +88,7 @@ fn replays() -> Vec<Replay> {
             bound: 3_000,
             response: 4_800,
             ways: &FIFO,
+            breaks: &["not_past"],
             jobs: vec![alike(&[200], &[request(0, 1_000)]), alike(&[100], &[request(0, 2_000)]), alike(&[0], &[request(0, 2_000)])],
         },
         Replay {
@@ -92,6 +98,7 @@ fn replays() -> Vec<Replay> {
             bound: 3_000,
             response: 12_500,
             ways: &TO_THE_LETTER,
+            breaks: &["conserves"],
             jobs: vec![
                 alike(&[300], &[request(0, 1_000)]),
                 alike(&[300], &[request(1, 1_000)]),
@@ -107,6 +114,7 @@ fn replays() -> Vec<Replay> {
             bound: 3_000,
             response: 7_900,
             ways: &UNINHERITED,
+            breaks: &["conserves"],
             jobs: vec![alike(&[100], &[request(0, 1_000)]), alike(&[200], &[free(5_000)]), alike(&[0], &[request(0, 2_000)])],
         },
         Replay {
@@ -116,6 +124,7 @@ fn replays() -> Vec<Replay> {
             bound: 5_000,
             response: 6_800,
             ways: &SPINNING,
+            breaks: &["conserves"],
             jobs: vec![alike(&[100], &[request(0, 1_000)]), alike(&[200], &[free(5_000)]), alike(&[0], &[request(0, 2_000)])],
         },
     ]
@@ -140,6 +149,7 @@ impl Replay {
         assert_eq!(missing, self.misses, "the tasks that miss in\n{}", self.listing);
         assert_eq!(bounds[self.task - 1], Some(self.bound), "the bound of task {} in\n{}", self.task, self.listing);
         assert!(may_be(&table, &self.jobs), "jobs out of their limits:\n{}", self.listing);
+        assert!(generated::broken(&table, &generated::job_set(&self.jobs)).is_empty(), "not jobs of the proved model:\n{}", self.listing);
         self.scenarios(self.ways).for_each(|scenario| self.as_told(&scenario, table.m));
         if missing.is_empty() {
             self.scenarios(&RIGHT).for_each(|scenario| self.in_time(&scenario, table.m, &bounds));
@@ -152,15 +162,16 @@ impl Replay {
         kernels.map(|kernel| Scenario { jobs: self.jobs.clone(), kernel })
     }
 
-    /// The audit agrees if the kernel is a right one, and finds a wrong one out.
+    /// The audit agrees if the kernel is a right one, and finds a wrong one out, as a fact of the proved model does.
     fn as_told(&self, scenario: &Scenario, m: u64) {
         let Kernel { granting, inheritance, wait, .. } = scenario.kernel;
         assert_eq!(scenario.response(m, self.task - 1), self.response, "task {} under {} of\n{}", self.task, scenario.kernel, self.listing);
         assert_eq!(scenario.audited(m).is_ok(), RIGHT.contains(&(granting, inheritance, wait)), "audited under {} of\n{}", scenario.kernel, self.listing);
+        assert_eq!(scenario.breaks(m), self.breaks, "the facts that are broken under {} of\n{}", scenario.kernel, self.listing);
     }
 
     fn in_time(&self, scenario: &Scenario, m: u64, bounds: &[Option<u64>]) {
-        assert_eq!(scenario.audited(m), Ok(()), "{} of\n{}", scenario.kernel, self.listing);
+        assert_eq!((scenario.audited(m), scenario.breaks(m)), (Ok(()), vec![]), "{} of\n{}", scenario.kernel, self.listing);
         for (task, bound) in bounds.iter().enumerate() {
             assert!(Some(scenario.response(m, task)) <= *bound, "task {} is late under {} of\n{}", task + 1, scenario.kernel, self.listing);
         }

@@ -1,8 +1,8 @@
 //! What is simulated at once: the jobs of all tasks, and the choices that the model leaves to the kernel.
 
-use super::audit;
 use super::jobs::{self, Job, Jobs};
 use super::kernel::Kernel;
+use super::{audit, facts, generated};
 
 #[derive(Clone)]
 pub struct Scenario {
@@ -27,6 +27,12 @@ impl Scenario {
     pub fn audited(&self, m: u64) -> Result<(), String> {
         let (finishes, intervals) = self.kernel.schedule(m, &self.jobs);
         audit::fault(m, &self.jobs, &finishes, &intervals)
+    }
+
+    /// The names of the facts about the kernel that the schedule breaks on m processors.
+    pub fn breaks(&self, m: u64) -> Vec<&'static str> {
+        let (_, intervals) = self.kernel.schedule(m, &self.jobs);
+        generated::names(&facts::in_intervals(m, &generated::job_set(&self.jobs), &intervals).broken)
     }
 
     /// The largest response time of a task (from 0).
