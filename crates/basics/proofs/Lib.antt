@@ -1,7 +1,7 @@
 -- Each word's laws, stated once.
 --   ChoiceLaws       stops, passes, and-true, pick-when, within-in, within-low, within-high, within-true, only-below, only-le, only-when, only-some
---   SumLaws          sum-none, sum-more, sum-le, sum-rises, sum-part, sum-bound, sum-eq, sum-one, sum-add, sum-some, sum-wider, sum-found
---   MaxLaws          max-more, max-bound, max-le, max-rises, max-wider
+--   SumLaws          sum-none, sum-more, sum-le, sum-rises, sum-part, sum-bound, sum-eq, sum-one, sum-add, sum-some, sum-wider, sum-found, sum-first, sum-scale
+--   MaxLaws          max-more, max-bound, max-le, max-rises, max-wider, max-part
 --   AllLaws          all-none, all-more, all-at, all-fails, all-hold, all-zero
 --   FirstIndexLaws   first-none, first-more, First, first-is, first-by, first-here, first-eq
 --   CountLaws        count-on, count-off, count-none, count-some, sum-ones, sum-swap, count-number

@@ -36,3 +36,6 @@ max-rises m (suc n) g h = go (ℕ-discrete m (suc n)) (λ l. max-rises m n g l)
 -- nowhere larger, and over no more indices
 pub max-wider : (m n : ℕ) (g h : ℕ → ℕ) → m ≤ n → ((k : ℕ) → k < m → g k ≤ h k) → maxTo m g ≤ maxTo n h
 max-wider m n g h l le = le-trans (max-le m g h le) (max-rises m n h l)
+
+pub max-part : (n k : ℕ) (g : ℕ → ℕ) → k < n → g k ≤ maxTo n g
+max-part n k g h = omega (arith, max-more k g, max-rises (k + 1) n g (omega arith))

@@ -90,3 +90,14 @@ sum-found (suc n) g h = go (ℕ-discrete (g n) 0) (λ s. sum-found n g s)
     go : Dec (g n ≡ 0) → (1 ≤ sumTo n g → (k : ℕ) × (k < n) × (1 ≤ g k)) → (k : ℕ) × (k < suc n) × (1 ≤ g k)
     go (yes e) ih = let f = ih (omega arith) in (f .0, omega (arith, f .1), f .2)
     go (no d) ih = (n, le-refl (suc n), omega arith)
+
+-- the first term apart; and a factor
+pub sum-first : (n : ℕ) (g : ℕ → ℕ) → sumTo (suc n) g ≡ g 0 + sumTo n (λ j. g (suc j))
+unfolding sumTo
+sum-first zero g = omega arith
+sum-first (suc n) g = omega (arith, sum-first n g)
+
+pub sum-scale : (n m : ℕ) (g : ℕ → ℕ) → sumTo n (λ s. m * g s) ≡ m * sumTo n g
+unfolding sumTo
+sum-scale zero m g = omega arith
+sum-scale (suc n) m g = omega (arith, sum-scale n m g)

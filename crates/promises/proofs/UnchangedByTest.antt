@@ -17,7 +17,7 @@ use Rattle.theory.specs.View.{View, level, resource}
 use Rattle.theory.specs.Demand.{unitsRead}
 use Rattle.promises.specs.Reads.{Reads, longest, Unchanged, OnlyRun, SameWhereRead}
 use Rattle.promises.proofs.ReadsLaws.{Fitting, read-units}
-use Rattle.promises.proofs.AgreeByTest.{Has, sameOf, Passed, same-of, agreesOn, agree-by}
+use Rattle.promises.proofs.AgreeByTest.{sameOf, Passed, same-of, agreesOn, agree-by}
 
 module _ (v w : View) where
   -- the same of each pair of each task that passes a test

@@ -1,4 +1,5 @@
--- What a report promises about the console itself: the report's Theorem 1, over every run of the tasks on a kernel of the kind that README tells in "What is presumed". `Jobs` and `Schedule` of `schedules` say what such a run is.
+-- What the printed rows promise about the console itself: Theorem 1 of HURRAY-TR-090908, over every run of the tasks on a kernel of the kind that README tells in "What is presumed". A run is jobs, and a schedule of them: `Jobs` and `Schedule` of
+-- `schedules` say which.
 use Prim.Native.Nat.{ℕ, _*_, _≤_, _<_}
 use Prim.Native.String.{String}
 use mathlib.Core.Path.{_≡_}
@@ -22,7 +23,7 @@ use Rattle.page.specs.Report.{reportAllowance}
 use Rattle.promises.specs.Reads.{Reads}
 use Rattle.promises.specs.Rounds.{PrintsRows}
 
--- in every run of the table's tasks, its instants being k-ths of a microsecond, no job of a task that X names takes longer than so many microseconds
+-- in every run of the table's tasks, its instants being k-ths of a microsecond, no job of a task that X names takes longer than so many microseconds: `NoneLonger` of `schedules`, of this table
 abbrev pub NoJobLonger : Table → (ℕ → Bool) → (ℕ → ℕ) → Type 0
 NoJobLonger t X micros =
     (k : ℕ) → 1 ≤ k → (J : JobSet) → Generated (finer k (viewOf t)) J → (S : Schedule) (E : ℕ) → UnderPIP (finer k (viewOf t)) J S E
@@ -32,7 +33,7 @@ NoJobLonger t X micros =
 abbrev pub RowsMeet : Table → (ℕ → Counted) → (ℕ → Bool) → (ℕ → ℕ) → Type 0
 RowsMeet t row X micros = (i : ℕ) → i < t .n → X i ≡ true → row i .verdict ≡ Meets (micros i)
 
--- what each of these tasks reads is among them, and so is what that reads in turn
+-- what each of these tasks reads is among them, and so is what that reads in turn: `Closed` of `schedules`, by the locks and ceilings
 abbrev pub ReadNoOther : Table → (ℕ → Bool) → Type 0
 ReadNoOther t X = (i l : ℕ) → i < t .n → X i ≡ true → l < t .n → Reads (viewOf t) (level i) (level l) → X l ≡ true
 

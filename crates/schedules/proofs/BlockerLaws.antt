@@ -9,8 +9,8 @@ use native.Mathlib.Omega.{arith}
 use borrow.Author.Tests.{eq-eqb, eqb-true, ltb-true, lt-ltb}
 use lib.Dec.{eqb, ltb}
 use Rattle.basics.specs.Choice.{only}
-use Rattle.basics.specs.Over.{firstTo, maxTo}
-use Rattle.basics.proofs.MaxLaws.{max-more, max-rises}
+use Rattle.basics.specs.Over.{firstTo}
+use Rattle.basics.proofs.MaxLaws.{max-part}
 use Rattle.basics.proofs.SumLaws.{sum-le}
 use Rattle.basics.proofs.FirstIndexLaws.{first-is}
 use Rattle.basics.proofs.OnceLaws.{both, and-both}
@@ -38,9 +38,6 @@ atUnit v J S i u s = blocked v J S i s && eqb (progress J S s i .unit) u
 -- the longest request of one below i
 unfoldable pub longestBelow : View → ℕ → ℕ → ℕ
 longestBelow v i k = largestBelow v (level i) (λ h. v .c h (resource k))
-
-max-part : (n k : ℕ) (g : ℕ → ℕ) → k < n → g k ≤ maxTo n g
-max-part n k g h = omega (arith, max-more k g, max-rises (k + 1) n g (omega arith))
 
 module _ (v : View) (J : JobSet) (S : Schedule) (E : ℕ) (o : Generated v J) (p : Obeys v J S E) where
   pub record Blocker (i s : ℕ) : Type 0 where
@@ -108,10 +105,10 @@ module _ (v : View) (J : JobSet) (S : Schedule) (E : ℕ) (o : Generated v J) (p
           one h m e =
               let f = waits-for J S (A + s₀) i h e in
               let g = waits-for J S (A + s₀) i (b₀ .h) (b₀ .waited) in
-              p .alone (A + s₀) h (b₀ .h) (omega arith) m (b₀ .small) (f .holding) (g .holding) (sym (f .needing) ∙ g .needing)
+              p .one-at-a-time (A + s₀) h (b₀ .h) (omega arith) m (b₀ .small) (f .holding) (g .holding) (sym (f .needing) ∙ g .needing)
 
           same : (h : ℕ) → h ≡ b₀ .h → Same v J S E o p i j u (b₀ .h) (progress J S (A + s₀) (b₀ .h) .job) (at-stretch v J S E o p (A + s₀) (b₀ .h)) l (A + s₀) h
-          same h z = record { task = z; job = ap (λ (x : ℕ). progress J S (A + s₀) x .job) z; asked = ap (at-stretch v J S E o p (A + s₀)) z }
+          same h z = record { task = z; job = ap (λ (x : ℕ). progress J S (A + s₀) x .job) z; inside-it = ap (at-stretch v J S E o p (A + s₀)) z }
 
       is-own : (s h : ℕ) → h ≡ h₀ → S .runs s h ≡ true → progress J S s h .job ≡ j₀ → needs J S s h ≡ suc k → at-stretch v J S E o p s h ≡ q₀ → own s ≡ true
       unfolding own one-stretch
@@ -135,7 +132,7 @@ module _ (v : View) (J : JobSet) (S : Schedule) (E : ℕ) (o : Generated v J) (p
           let ft = subst (λ (z : ℕ). Stage v J S E o p i j u h₀ j₀ q₀ l z) w (staged v J S E o p i j u h₀ j₀ q₀ l (A + s₀) (s - s₀) (omega arith) start) in
           let sm = found v J S E o p i j u h₀ j₀ q₀ l (A + s) (b .h) (b .small) ft (at (A + s) (omega arith) (omega arith)) un (b .below) (b .waited) in
           let lk = sym (waits-for J S (A + s) i (b .h) (b .waited) .needing) ∙ needs-at (A + s) (omega arith) (omega arith) u un ∙ need in
-          is-own (A + s) (b .h) (sm .task) (b .runs) (sm .job) lk (sm .asked)
+          is-own (A + s) (b .h) (sm .task) (b .runs) (sm .job) lk (sm .inside-it)
 
       pub request-most : k < maxResources → ((s : ℕ) → s < s₀ → atUnit v J S i u (A + s) ≡ false) → hits (atUnit v J S i u) A t ≤ longestBelow v i k
       unfolding hits own one-stretch h₀

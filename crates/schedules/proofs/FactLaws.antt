@@ -12,31 +12,31 @@ use Rattle.schedules.specs.Jobs.{JobSet}
 use Rattle.schedules.specs.Schedule.{Schedule, pending, needs, begins, waitsFor, waits, ahead, gotAfter, runs-pending, runs-locked, conserves, one-holder, holds-pending, holds-lock, keeps, goes-on, asked-on, not-past, FactAt, UnderPIP}
 
 pub record Obeys (v : View) (J : JobSet) (S : Schedule) (E : ℕ) : Type 0 where
-  pub pends : (s l : ℕ) → s < E → l < v .n → S .runs s l ≡ true → pending J S s l ≡ true
+  pub runs-there : (s l : ℕ) → s < E → l < v .n → S .runs s l ≡ true → pending J S s l ≡ true
   pub locks : (s l : ℕ) → s < E → l < v .n → S .runs s l ≡ true → 0 < needs J S s l → S .holds s l ≡ true
-  pub works : (s l : ℕ) → s < E → l < v .n → pending J S s l ≡ true → waits v J S s l ≡ false → S .runs s l ≡ false → v .cpus ≤ countTo (v .n) (ahead v J S s l)
-  pub alone : (s l w : ℕ) → s < E → l < v .n → w < v .n → S .holds s l ≡ true → S .holds s w ≡ true → needs J S s l ≡ needs J S s w → l ≡ w
-  pub holder-pends : (s l : ℕ) → s < E → l < v .n → S .holds s l ≡ true → pending J S s l ≡ true
+  pub conserved : (s l : ℕ) → s < E → l < v .n → pending J S s l ≡ true → waits v J S s l ≡ false → S .runs s l ≡ false → v .cpus ≤ countTo (v .n) (ahead v J S s l)
+  pub one-at-a-time : (s l w : ℕ) → s < E → l < v .n → w < v .n → S .holds s l ≡ true → S .holds s w ≡ true → needs J S s l ≡ needs J S s w → l ≡ w
+  pub holder-there : (s l : ℕ) → s < E → l < v .n → S .holds s l ≡ true → pending J S s l ≡ true
   pub holder-needs : (s l : ℕ) → s < E → l < v .n → S .holds s l ≡ true → 0 < needs J S s l
   pub kept : (s l : ℕ) → suc s < E → l < v .n → S .holds s l ≡ true → S .runs s l ≡ false → S .holds (suc s) l ≡ true
   pub kept-on : (s l : ℕ) → suc s < E → l < v .n → S .runs s l ≡ true → 0 < needs J S (suc s) l → begins J S (suc s) l ≡ false → S .holds (suc s) l ≡ true
   pub asks-on : (s l : ℕ) → suc s < E → l < v .n → S .asked s l ≡ true → S .runs s l ≡ false → S .asked (suc s) l ≡ true
-  pub first-served : (s l w : ℕ) → suc s < E → l < v .n → w < v .n → gotAfter J S s l ≡ true → S .asked s w ≡ true → S .runs s w ≡ false → waitsFor J S (suc s) w l ≡ true → l < w
+  pub not-passed : (s l w : ℕ) → suc s < E → l < v .n → w < v .n → gotAfter J S s l ≡ true → S .asked s w ≡ true → S .runs s w ≡ false → waitsFor J S (suc s) w l ≡ true → l < w
 
 pub obeys : (v : View) (J : JobSet) (S : Schedule) (E : ℕ) → UnderPIP v J S E → Obeys v J S E
 unfolding FactAt
 obeys v J S E p =
     record {
-      pends = λ s l e. p s e runs-pending l;
+      runs-there = λ s l e. p s e runs-pending l;
       locks = λ s l e. p s e runs-locked l;
-      works = λ s l e. p s e conserves l;
-      alone = λ s l w e. p s e one-holder l w;
-      holder-pends = λ s l e. p s e holds-pending l;
+      conserved = λ s l e. p s e conserves l;
+      one-at-a-time = λ s l w e. p s e one-holder l w;
+      holder-there = λ s l e. p s e holds-pending l;
       holder-needs = λ s l e. p s e holds-lock l;
       kept = λ s l e. p (suc s) e keeps s l refl;
       kept-on = λ s l e. p (suc s) e goes-on s l refl;
       asks-on = λ s l e. p (suc s) e asked-on s l refl;
-      first-served = λ s l w e. p (suc s) e not-past s l w refl;
+      not-passed = λ s l w e. p (suc s) e not-past s l w refl;
     }
 
 -- what it is to wait for the lock that h holds

@@ -37,7 +37,7 @@ module _ (v : View) (J : JobSet) (S : Schedule) (s : ℕ) where
   waited i e = let m = ltb-true (firstTo (v .n) (waitsFor J S s i)) (v .n) e in (firstTo (v .n) (waitsFor J S s i), m, first-is (v .n) (waitsFor J S s i) .found m)
 
   -- who holds its lock does not wait
-  pub holder-free : (h : ℕ) → S .holds s h ≡ true → (b : Bool) → waits v J S s h ≡ b → b ≡ false
+  holder-free : (h : ℕ) → S .holds s h ≡ true → (b : Bool) → waits v J S s h ≡ b → b ≡ false
   holder-free h e true w = let x = waited h w in both e (waits-for J S s h (x .0) (x .2) .lacking)
   holder-free h e false w = refl
 
@@ -52,7 +52,7 @@ module _ (v : View) (J : JobSet) (S : Schedule) (s : ℕ) where
   waiter-lends l w e = or-second (eqb w l) _ e
 
   -- a priority is no lower than the task's own, nor than that of one who waits for its lock; and it is one of these
-  pub priority-le : (l w : ℕ) → w < v .n → lends J S s l w ≡ true → priority v J S s l ≤ w
+  priority-le : (l w : ℕ) → w < v .n → lends J S s l w ≡ true → priority v J S s l ≤ w
   unfolding priority
   priority-le l w h e = go (decLt w (firstTo (v .n) (lends J S s l)))
     where
@@ -63,7 +63,7 @@ module _ (v : View) (J : JobSet) (S : Schedule) (s : ℕ) where
       go (yes d) = both e (f .clear w d)
       go (no d) = omega arith
 
-  pub own-priority : (l : ℕ) → l < v .n → priority v J S s l ≤ l
+  own-priority : (l : ℕ) → l < v .n → priority v J S s l ≤ l
   own-priority l h = priority-le l l h (own-lends l)
 
   pub priority-from : (l : ℕ) → l < v .n → lends J S s l (priority v J S s l) ≡ true
@@ -99,7 +99,7 @@ module _ (v : View) (J : JobSet) (S : Schedule) (s : ℕ) where
     same-holder i g h k m x y =
         let c = waits-for J S s i g x in
         let f = waits-for J S s i h y in
-        p .alone s g h b k m (c .holding) (f .holding) (sym (c .needing) ∙ f .needing)
+        p .one-at-a-time s g h b k m (c .holding) (f .holding) (sym (c .needing) ∙ f .needing)
 
     -- who runs waits for nothing
     runs-free : (l h : ℕ) → l < v .n → h < v .n → S .runs s l ≡ true → waitsFor J S s l h ≡ true → ⊥
@@ -126,11 +126,11 @@ module _ (v : View) (J : JobSet) (S : Schedule) (s : ℕ) where
             let f = waits-for J S s i h e in
             busy (over-le i (priority v J S s h) (priority-le h i l (waiter-lends h i e))
             (no-tie (λ g k a y. both (subst (λ (z : ℕ). S .runs s z ≡ true) (same-holder i g h k m y e) a) x))
-            (p .works s h b m (p .holder-pends s h b m (f .holding)) (holder-free h (f .holding) (waits v J S s h) refl) x))
+            (p .conserved s h b m (p .holder-there s h b m (f .holding)) (holder-free h (f .holding) (waits v J S s h) refl) x))
 
         go : (c : Bool) → waits v J S s i ≡ c → Why i
         go true e = let w = waited i e in lower (w .0) (w .1) (w .2) (S .runs s (w .0)) refl
-        go false e = busy (over-le i (priority v J S s i) (own-priority i l) (no-tie (λ g k a x. none e g k x)) (p .works s i b l r e n))
+        go false e = busy (over-le i (priority v J S s i) (own-priority i l) (no-tie (λ g k a x. none e g k x)) (p .conserved s i b l r e n))
 
     -- no two that run have one priority, so at most i of them are above i
     pub above-most : (i : ℕ) → countTo (v .n) (λ h. over i h) ≤ i

@@ -12,7 +12,7 @@ use Rattle.basics.specs.Choice.{only, pick}
 use Rattle.basics.specs.Over.{sumTo, countTo, firstTo}
 use Rattle.basics.proofs.ChoiceLaws.{stops, and-true}
 use Rattle.basics.proofs.OnceLaws.{first-below}
-use Rattle.basics.proofs.SumLaws.{sum-le, sum-part, sum-add}
+use Rattle.basics.proofs.SumLaws.{sum-le, sum-part, sum-add, sum-scale}
 use Rattle.basics.proofs.CountLaws.{sum-ones, count-none}
 use Rattle.theory.specs.Work.{workload, ceilDiv}
 use Rattle.theory.specs.View.{View, level, isAbove}
@@ -22,7 +22,7 @@ use Rattle.schedules.specs.Jobs.{JobSet, Generated}
 use Rattle.schedules.specs.Schedule.{Schedule, progress, needs, pending, waitsFor}
 use Rattle.schedules.specs.Theorem.{Constrained}
 use Rattle.schedules.proofs.FactLaws.{Obeys, WaitsFor, waits-for}
-use Rattle.schedules.proofs.TallyLaws.{among-suc, sum-scale}
+use Rattle.schedules.proofs.TallyLaws.{among-suc}
 use Rattle.schedules.proofs.InstantLaws.{over, Why, busy, held, why, above-most}
 use Rattle.schedules.proofs.UnitLaws.{ownLock}
 use Rattle.schedules.proofs.TermLaws.{Met, O-most, F-most, L-most}
@@ -35,7 +35,7 @@ unfolding ceilDiv
 under k m X pos h = let e : k * m ≤ X + (m - 1) = omega arith in le-div-iff-mul-le pos .1 e
 
 module _ (v : View) (J : JobSet) (S : Schedule) (E : ℕ) (fit : Constrained v) (o : Generated v J) (p : Obeys v J S E) (i : ℕ) where
-  abbrev pub allS : ℕ → ℕ
+  abbrev allS : ℕ → ℕ
   allS s = sumTo (v .n) (atS v J S E fit o p i s)
 
   abbrev allO : ℕ → ℕ

@@ -15,7 +15,8 @@ use Rattle.schedules.specs.Schedule.{Schedule, onward, progress, priorit
 use Rattle.schedules.specs.Wrong.{UnderPIPBut, OtherKernel, spins, no-inheritance, aheadIn, UnderOther, WrongDemand, no-DB, no-S, no-O, no-F, no-L, once-a-lock, next-ceiling, one-less, wrongDemand}
 use Rattle.schedules.specs.Theorem.{Closed, NoneLonger, finer}
 use Rattle.schedules.specs.Picture.{jobsOf, runOf}
-use Rattle.schedules.specs.Broken.{BrokenRun, brokenRun, otherRun, smallRun, pictureOf, lengthsOf, systemOf}
+use Rattle.schedules.specs.Broken.{LateRun, brokenRun, otherRun, pictureOf, lengthsOf, systemOf}
+use Rattle.schedules.specs.Small.{smallRun}
 use Rattle.schedules.specs.Shown.{missTable, missPicture}
 use Rattle.schedules.proofs.FactsByTest.{factTest}
 use Rattle.schedules.proofs.GeneratedByTest.{generatedRules}
@@ -24,7 +25,7 @@ use Rattle.schedules.proofs.RunsByTest.{factNumber, pipTest, pip-by-tes
 use Rattle.schedules.proofs.RefuteLaws.{due, refutingRules, refutes, refuted}
 
 -- a run of `Broken`, with a demand: it is drawn up to the instant `drawnDue`, and its set is of all tasks
-module _ (demand : View → Level → ℕ → ℕ) (b : BrokenRun) where
+module _ (demand : View → Level → ℕ → ℕ) (b : LateRun) where
   abbrev drawnView : View
   drawnView = finer 1 (systemOf b)
 
@@ -41,7 +42,7 @@ module _ (demand : View → Level → ℕ → ℕ) (b : BrokenRun) where
       → Run drawnView drawnJobs drawnRun drawnDue → NoneLonger demand Closed Run → ⊥
   longer Run e run = refuted demand (systemOf b) (pictureOf b) (λ _. true) (lengthsOf b) (b .late) Closed Run e (λ i l h x k u. refl) run
 
-broken : (g : KernelFact) (b : BrokenRun) → refutes demandOf (systemOf b) (pictureOf b) (λ _. true) (lengthsOf b) (b .late) ≡ true
+broken : (g : KernelFact) (b : LateRun) → refutes demandOf (systemOf b) (pictureOf b) (λ _. true) (lengthsOf b) (b .late) ≡ true
     → butTest (drawnView demandOf b) (drawnJobs demandOf b) (drawnRun demandOf b) (drawnDue demandOf b) g ≡ true → NoneLonger demandOf Closed (UnderPIPBut g) → ⊥
 broken g b e f = longer demandOf b (UnderPIPBut g) e (but-by-test (drawnView demandOf b) (drawnJobs demandOf b) (drawnRun demandOf b) (drawnDue demandOf b) g f)
 
@@ -58,7 +59,7 @@ needed-holds goes-on = broken goes-on (brokenRun goes-on) refl refl
 needed-holds asked-on = broken asked-on (brokenRun asked-on) refl refl
 needed-holds not-past = broken not-past (brokenRun not-past) refl refl
 
-other : (o : OtherKernel) (b : BrokenRun) → refutes demandOf (systemOf b) (pictureOf b) (λ _. true) (lengthsOf b) (b .late) ≡ true
+other : (o : OtherKernel) (b : LateRun) → refutes demandOf (systemOf b) (pictureOf b) (λ _. true) (lengthsOf b) (b .late) ≡ true
     → butTest (drawnView demandOf b) (drawnJobs demandOf b) (drawnRun demandOf b) (drawnDue demandOf b) conserves ≡ true
     → otherTest (drawnView demandOf b) (drawnJobs demandOf b) (drawnRun demandOf b) (drawnDue demandOf b) o ≡ true → NoneLonger demandOf Closed (UnderOther o) → ⊥
 other o b e f g = longer demandOf b (UnderOther o) e (other-by-test (drawnView demandOf b) (drawnJobs demandOf b) (drawnRun demandOf b) (drawnDue demandOf b) o f g)
@@ -68,7 +69,7 @@ unfolding otherRun aheadIn sumTo maxTo allTo firstTo uncapped workload jobs ceil
 kernels-holds spins = other spins (otherRun spins) refl refl refl
 kernels-holds no-inheritance = other no-inheritance (otherRun no-inheritance) refl refl refl
 
-small : (d : WrongDemand) (b : BrokenRun) → refutes (wrongDemand d) (systemOf b) (pictureOf b) (λ _. true) (lengthsOf b) (b .late) ≡ true
+small : (d : WrongDemand) (b : LateRun) → refutes (wrongDemand d) (systemOf b) (pictureOf b) (λ _. true) (lengthsOf b) (b .late) ≡ true
     → pipTest (drawnView (wrongDemand d) b) (drawnJobs (wrongDemand d) b) (drawnRun (wrongDemand d) b) (drawnDue (wrongDemand d) b) ≡ true → NoneLonger (wrongDemand d) Closed UnderPIP → ⊥
 small d b e f = longer (wrongDemand d) b UnderPIP e (pip-by-test (drawnView (wrongDemand d) b) (drawnJobs (wrongDemand d) b) (drawnRun (wrongDemand d) b) (drawnDue (wrongDemand d) b) f)
 

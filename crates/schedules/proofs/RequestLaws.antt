@@ -47,7 +47,7 @@ module _ (v : View) (J : JobSet) (S : Schedule) (E : ℕ) (o : Generated v J) (p
     pub record Same (s h : ℕ) : Type 0 where
       pub task : h ≡ h₀
       pub job : progress J S s h .job ≡ j₀
-      pub asked : at-stretch s h ≡ q₀
+      pub inside-it : at-stretch s h ≡ q₀
 
     pub record Still (s : ℕ) : Type 0 where
       pub asking : S .asked s i ≡ true
@@ -64,7 +64,7 @@ module _ (v : View) (J : JobSet) (S : Schedule) (E : ℕ) (o : Generated v J) (p
     unmoved : (s h : ℕ) → S .runs s h ≡ false → Same s h → Same (suc s) h
     unmoved s h r y =
         let q : progress J S (suc s) h ≡ progress J S s h = stay J S s h r in
-        record { task = y .task; job = ap (λ (z : Progress). z .job) q ∙ y .job; asked = ap (λ (z : Progress). stretch J h (z .job) (z .unit)) q ∙ y .asked }
+        record { task = y .task; job = ap (λ (z : Progress). z .job) q ∙ y .job; inside-it = ap (λ (z : Progress). stretch J h (z .job) (z .unit)) q ∙ y .inside-it }
 
     -- it went on within its stretch
     went-on : (s h : ℕ) → begins J S (suc s) h ≡ false → progress J S (suc s) h ≡ record { job = progress J S s h .job; unit = suc (progress J S s h .unit) } → Same s h → Same (suc s) h
@@ -73,7 +73,7 @@ module _ (v : View) (J : JobSet) (S : Schedule) (E : ℕ) (o : Generated v J) (p
         let a = progress J S s h in
         let nf : J .starts h (a .job) (suc (a .unit)) ≡ false = subst (λ (z : Progress). J .starts h (z .job) (z .unit) ≡ false) q x in
         let rq : stretch J h (a .job) (suc (a .unit)) ≡ stretch J h (a .job) (a .unit) = rw nf (omega arith) in
-        record { task = y .task; job = ap (λ (z : Progress). z .job) q ∙ y .job; asked = ap (λ (z : Progress). stretch J h (z .job) (z .unit)) q ∙ rq ∙ y .asked }
+        record { task = y .task; job = ap (λ (z : Progress). z .job) q ∙ y .job; inside-it = ap (λ (z : Progress). stretch J h (z .job) (z .unit)) q ∙ rq ∙ y .inside-it }
 
     -- who is lower, has the lock at the next instant and did not get it then, has had it
     had : (s h : ℕ) → suc s < E → h < v .n → i < h → Still s → S .runs s i ≡ false → waitsFor J S (suc s) i h ≡ true → gotAfter J S s h ≡ false → Same (suc s) h
@@ -116,7 +116,7 @@ module _ (v : View) (J : JobSet) (S : Schedule) (E : ℕ) (o : Generated v J) (p
     next s b (still a c n w) = go (S .runs s i) refl
       where
         last : S .runs s i ≡ false → (h : ℕ) → h < v .n → i < h → waitsFor J S (suc s) i h ≡ true → (d : Bool) → gotAfter J S s h ≡ d → Same (suc s) h
-        last r h m g e true k = absurd (omega (arith, p .first-served s h i b m l k (w .asking) r e))
+        last r h m g e true k = absurd (omega (arith, p .not-passed s h i b m l k (w .asking) r e))
         last r h m g e false k = had s h b m g w r e k
 
         rest : S .runs s i ≡ false → (d : Bool) → S .holds (suc s) i ≡ d → Stage (suc s)

@@ -1,4 +1,4 @@
--- The run that is shown: by computing its first round, since the others are like it.
+-- The run that is shown: by computing its first cycle, since the others are like it.
 -- Assumes nothing.
 use Prim.Native.Nat.{ℕ, zero, suc, _+_, _≤_, _<_}
 use mathlib.Core.Path.{_≡_, refl}
@@ -27,7 +27,7 @@ use Rattle.schedules.specs.Shown.{shownTable, shownBounds, shownPicture,
 use Rattle.schedules.proofs.FactsByTest.{factTest, fact-by-test}
 use Rattle.schedules.proofs.GeneratedByTest.{generatedRules, generated-by-test}
 use Rattle.schedules.proofs.LeastByTest.{leastTest, least-by-test}
-use Rattle.schedules.proofs.RepeatLaws.{round-after-round, runs-again, repeats}
+use Rattle.schedules.proofs.RepeatLaws.{cycle-after-cycle, runs-again, repeats}
 
 abbrev shownView : View
 shownView = viewOf shownTable
@@ -60,8 +60,8 @@ facts-test goes-on = refl
 facts-test asked-on = refl
 facts-test not-past = refl
 
-first-round : (s : ℕ) → s ≤ 20 → (f : KernelFact) → FactAt shownView shownJobs shownRun s f
-first-round s h f = fact-by-test shownView shownJobs shownRun s f (all-at 21 s _ (facts-test f) (omega arith))
+first-cycle : (s : ℕ) → s ≤ 20 → (f : KernelFact) → FactAt shownView shownJobs shownRun s f
+first-cycle s h f = fact-by-test shownView shownJobs shownRun s f (all-at 21 s _ (facts-test f) (omega arith))
 
 finished : (l : ℕ) → l < shownView .n → progress shownJobs shownRun 20 l ≡ record { job = 1; unit = 0 }
 unfolding shownTable jobsOf runOf onward progress
@@ -85,7 +85,7 @@ places-test = refl
 
 places : (s : ℕ) → countTo 4 (shownRun .runs s) ≤ 2
 places =
-    round-after-round (λ (s : ℕ). countTo 4 (shownRun .runs s) ≤ 2) 20 (lit< tt)
+    cycle-after-cycle (λ (s : ℕ). countTo 4 (shownRun .runs s) ≤ 2) 20 (lit< tt)
     (λ s h. leb-true _ _ (all-at 21 s _ places-test (omega arith)))
     (λ q h. rw (sum-eq 4 (λ l. only (shownRun .runs (20 + suc q) l) 1) (λ l. only (shownRun .runs (suc q) l) 1) (λ l _. rw (runs-again shownPicture (lit< tt) (suc q) l))) h)
 
@@ -96,12 +96,12 @@ shown-holds =
       accepted = accepted;
       bounded = bounded;
       generated = generated;
-      scheduled = λ E s h f. repeats shownPicture (lit< tt) shownView every finished first-round s f;
+      scheduled = λ E s h f. repeats shownPicture (lit< tt) shownView every finished first-cycle s f;
       places = places;
       idle = refl;
       waiting = refl;
       inherits = refl;
-      ahead = (refl, refl, refl, refl);
+      raised = (refl, refl, refl, refl);
       handed = (refl, refl);
       preempted = (refl, refl, refl, refl);
       sharp = (refl, refl);

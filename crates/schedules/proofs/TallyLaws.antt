@@ -1,6 +1,6 @@
 -- Counting: tests that no two indices pass alike, and units by the lock that they need.
 -- Assumes nothing.
-use Prim.Native.Nat.{ℕ, zero, suc, _+_, _-_, _*_, _≤_, _<_, min, zero-le}
+use Prim.Native.Nat.{ℕ, zero, suc, _+_, _-_, _≤_, _<_, min, zero-le}
 use mathlib.Core.Path.{_≡_, refl, sym, subst, _∙_}
 use mathlib.Core.Bool.{Bool, true, false, not, _&&_, _||_}
 use native.Mathlib.Nat.{le-refl, le-trans}
@@ -9,17 +9,12 @@ use borrow.Author.Tests.{eq-eqb, ne-eqb, eqb-true, leb-true, ltb-true}
 use lib.Dec.{eqb, leb, ltb}
 use Rattle.basics.specs.Choice.{only}
 use Rattle.basics.specs.Over.{sumTo, countTo}
-use Rattle.basics.proofs.ChoiceLaws.{and-true}
+use Rattle.basics.proofs.ChoiceLaws.{and-true, only-le}
 use Rattle.basics.proofs.SumLaws.{sum-le, sum-part, sum-bound, sum-add}
 use Rattle.basics.proofs.CountLaws.{sum-swap, count-none}
 
-pub sum-scale : (n m : ℕ) (g : ℕ → ℕ) → sumTo n (λ s. m * g s) ≡ m * sumTo n g
-unfolding sumTo
-sum-scale zero m g = omega arith
-sum-scale (suc n) m g = omega (arith, sum-scale n m g)
-
 -- no two indices pass
-pub count-alone : (n : ℕ) (q : ℕ → Bool) → ((h g : ℕ) → h < n → g < n → q h ≡ true → q g ≡ true → h ≡ g) → countTo n q ≤ 1
+count-alone : (n : ℕ) (q : ℕ → Bool) → ((h g : ℕ) → h < n → g < n → q h ≡ true → q g ≡ true → h ≡ g) → countTo n q ≤ 1
 unfolding sumTo
 count-alone zero q a = zero-le
 count-alone (suc n) q a = go (q n) refl (count-alone n q (λ h g l m. a h g (omega arith) (omega arith)))
@@ -83,11 +78,7 @@ count-among n M w f ct known most =
     le-trans (sum-le n (λ u. only (among w (f u)) 1) (λ u. sumTo M (λ k. only (w k) (only (eqb (f u) (suc k)) 1))) (λ u l. by-lock M w (f u) (known u l)))
     (subst (λ (x : ℕ). x ≤ sumTo M (λ k. only (w k) (ct k))) (sym (sum-swap n M (λ u k. only (w k) (only (eqb (f u) (suc k)) 1))))
     (sum-le M (λ k. sumTo n (λ u. only (w k) (only (eqb (f u) (suc k)) 1))) (λ k. only (w k) (ct k))
-    (λ k l. le-trans (only-sum n (w k) (λ u. only (eqb (f u) (suc k)) 1)) (keep (w k) (most k l)))))
-  where
-    keep : (b : Bool) {x y : ℕ} → x ≤ y → only b x ≤ only b y
-    keep true h = h
-    keep false h = zero-le
+    (λ k l. le-trans (only-sum n (w k) (λ u. only (eqb (f u) (suc k)) 1)) (only-le (w k) (w k) _ _ refl (most k l)))))
 
 -- ---- by rank: of the indices that pass, those with so many before them
 

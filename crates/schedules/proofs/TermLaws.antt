@@ -57,7 +57,7 @@ module _ (v : View) (J : JobSet) (S : Schedule) (E : ℕ) (fit : Constrained v) 
       none s false e = refl
   counted A t h (suc x) P end met l hx most =
       load J S h (v .T (level h)) (v .D (level h)) (suc x) A t P (fit .positive h l) (omega (arith, fit .run h l)) (fit .deadline h l)
-      (λ j. o .some h j l) (λ j. o .apart h j l) (λ s m e. p .pends s h (omega arith) l e) most (λ s j m e. met (omega arith) s j m e)
+      (λ j. o .some h j l) (λ j. o .apart h j l) (λ s m e. p .runs-there s h (omega arith) l e) most (λ s j m e. met (omega arith) s j m e)
 
   -- the tasks whose workloads count meet their deadlines before the instant B
   abbrev pub Met : ℕ → Type 0

@@ -1,4 +1,4 @@
--- Runs in which a job takes longer than its task's length: for each fact about a kernel one in which it alone is broken; on kernels of other kinds; and with smaller demands.
+-- Runs in which a job takes longer than its task's bound: for each fact about a kernel one in which it alone is broken, and on kernels of other kinds.
 use Prim.Native.Nat.{ℕ, pred}
 use Prim.Native.String.{String}
 use mathlib.Core.Bool.{_&&_}
@@ -11,37 +11,37 @@ use Rattle.basics.specs.Text.{bytes}
 use Rattle.theory.specs.View.{View}
 use Rattle.schedules.specs.Jobs.{inLock}
 use Rattle.schedules.specs.Schedule.{KernelFact, runs-pending, runs-locked, conserves, one-holder, holds-pending, holds-lock, keeps, goes-on, asked-on, not-past}
-use Rattle.schedules.specs.Wrong.{OtherKernel, spins, no-inheritance, WrongDemand, no-DB, no-S, no-O, no-F, no-L, once-a-lock, next-ceiling, one-less}
+use Rattle.schedules.specs.Wrong.{OtherKernel, spins, no-inheritance}
 use Rattle.schedules.specs.Picture.{Picture, jobsOf}
 
--- one task of such a run: when its job is released, a length that covers its demand, the job's units and what it does
+-- one task of such a run: when its job is released, a length that covers its demand, of the late task the least, the job's units and what it does
 pub record DrawnTask : Type 0 where
   pub first : ℕ
-  pub bound : ℕ
+  pub covering : ℕ
   pub units : List ℕ
   pub doing : List ℕ
 
-abbrev drawn : ℕ → ℕ → String → String → DrawnTask
-drawn first bound units doing = record { first = first; bound = bound; units = bytes units; doing = bytes doing }
+abbrev pub drawn : ℕ → ℕ → String → String → DrawnTask
+drawn first covering units doing = record { first = first; covering = covering; units = bytes units; doing = bytes doing }
 
 -- the slot of the task that is late; and the tasks, the highest first
-pub record BrokenRun : Type 0 where
+pub record LateRun : Type 0 where
   pub cpus : ℕ
   pub late : ℕ
   pub tasks : List DrawnTask
 
-abbrev onCpus : ℕ → ℕ → List DrawnTask → BrokenRun
+abbrev pub onCpus : ℕ → ℕ → List DrawnTask → LateRun
 onCpus cpus late tasks = record { cpus = cpus; late = late; tasks = tasks }
 
 -- Each is drawn up to the instant at which the late job is to be finished, in the letters of `Picture`
-unfoldable pub brokenRun : KernelFact → BrokenRun
+unfoldable pub brokenRun : KernelFact → LateRun
 -- the first runs a job that is not there yet, and the second has no processor
 brokenRun runs-pending =
     onCpus 1 1
     (drawn 0 1 "-" "rr"
     ∷ drawn 0 2 "-" ".."
     ∷ [])
--- The third starts its request without the lock, which the second has, and is in the midst of it when the lock is free: so it did not get it past the first. That waits for both
+-- The third starts its request without the lock, which the second has, and is in the midst of it when the lock is free: so it did not get it past the first. The first waits for both
 brokenRun runs-locked =
     onCpus 2 0
     (drawn 0 3 "1" "aaa"
@@ -101,13 +101,15 @@ brokenRun not-past =
     ∷ drawn 0 3 "1" "aR"
     ∷ [])
 
--- who waits keeps the one processor, and the second, which has the lock, never runs again; the second runs while the first waits for the third, whose priority is not raised
-unfoldable pub otherRun : OtherKernel → BrokenRun
+unfoldable pub otherRun : OtherKernel → LateRun
+-- the first spins on one processor, the third, which has its lock, runs on the other, and the second has none
 otherRun spins =
-    onCpus 1 0
-    (drawn 1 3 "1" ".aaa"
-    ∷ drawn 0 4 "11" "Rhhh"
+    onCpus 2 1
+    (drawn 1 3 "1" ".a"
+    ∷ drawn 1 1 "-" ".."
+    ∷ drawn 0 4 "11" "RR"
     ∷ [])
+-- the first waits for the third, whose priority is not raised, and the second runs
 otherRun no-inheritance =
     onCpus 1 0
     (drawn 1 3 "1" ".aaa"
@@ -115,62 +117,13 @@ otherRun no-inheritance =
     ∷ drawn 0 9 "11" "Rhhh"
     ∷ [])
 
--- no fact is broken, and the lengths cover what is left of the demands
-unfoldable pub smallRun : WrongDemand → BrokenRun
--- the first waits for the second
-smallRun no-DB =
-    onCpus 1 0
-    (drawn 0 1 "1" "a"
-    ∷ drawn 0 9 "1" "R"
-    ∷ [])
--- the second waits for the first, and the other processor is free
-smallRun no-S =
-    onCpus 2 1
-    (drawn 0 9 "1" "R"
-    ∷ drawn 0 1 "1" "a"
-    ∷ [])
--- the first runs, with a lock that the second does not use, or without
-smallRun no-O =
-    onCpus 1 1
-    (drawn 0 9 "1" "R"
-    ∷ drawn 0 1 "-" "."
-    ∷ [])
-smallRun no-F =
-    onCpus 1 1
-    (drawn 0 9 "-" "r"
-    ∷ drawn 0 1 "-" "."
-    ∷ [])
--- the third runs at the priority of the first, and then the first, before the second
-smallRun no-L =
-    onCpus 1 1
-    (drawn 0 9 "1" "aR"
-    ∷ drawn 0 2 "-" ".."
-    ∷ drawn 0 9 "1" "R."
-    ∷ [])
--- the first waits for the second at its first request, and for the third at its second
-smallRun once-a-lock =
-    onCpus 1 0
-    (drawn 0 4 "1-1" "aRra"
-    ∷ drawn 0 9 "1" "R..."
-    ∷ drawn 0 9 "1" "...R"
-    ∷ [])
--- as without L
-smallRun next-ceiling =
-    onCpus 1 1
-    (drawn 0 9 "1" "aR"
-    ∷ drawn 0 2 "-" ".."
-    ∷ drawn 0 9 "1" "R."
-    ∷ [])
--- nobody is in the way
-smallRun one-less = onCpus 1 0 (drawn 0 1 "--" "r" ∷ [])
-
-module _ (b : BrokenRun) where
+module _ (b : LateRun) where
   abbrev pub pictureOf : Picture
   pictureOf =
-      record { first = map (λ t. t .first) (b .tasks); gaps = map (λ t. 20) (b .tasks); round = 20; units = map (λ t. t .units) (b .tasks); doing = map (λ t. t .doing) (b .tasks) }
+      record { first = map (λ t. t .first) (b .tasks); gaps = map (λ t. 20) (b .tasks); cycle = 20; units = map (λ t. t .units) (b .tasks); doing = map (λ t. t .doing) (b .tasks) }
 
   abbrev pub lengthsOf : ℕ → ℕ
-  lengthsOf i = getD (map (λ t. t .bound) (b .tasks)) i 0
+  lengthsOf i = getD (map (λ t. t .covering) (b .tasks)) i 0
 
   -- how many units a task's job has, how many with the lock, of which there is one, and how many requests
   abbrev runOfTask : ℕ → ℕ
@@ -182,7 +135,7 @@ module _ (b : BrokenRun) where
   abbrev requestsOfTask : ℕ → ℕ
   requestsOfTask l = countTo (runOfTask l) (λ u. inLock (jobsOf pictureOf) l 0 0 u && jobsOf pictureOf .starts l 0 u)
 
-  -- a table whose figures the jobs come up to, with T 20 and D 10 for all
+  -- a table with figures for these jobs, T 20 and D 10 for all, and c as large as CT
   abbrev pub systemOf : View
   systemOf =
       record {

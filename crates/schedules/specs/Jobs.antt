@@ -13,7 +13,7 @@ pub record JobSet : Type 0 where
   -- of task l and its job j: when it is released, and how many units it runs
   pub release : ℕ → ℕ → ℕ
   pub cost : ℕ → ℕ → ℕ
-  -- of that job and its unit u: the number of the resource that it uses, 0 for none; and whether a stretch starts with it, which is a request, or lies outside all requests
+  -- of that job and its unit u: the number of the resource that it uses, 0 for none; and whether a stretch starts with it: a stretch is one request, or units outside all requests
   pub lock : ℕ → ℕ → ℕ → ℕ
   pub starts : ℕ → ℕ → ℕ → Bool
 
@@ -31,7 +31,7 @@ pub record Generated (v : View) (J : JobSet) : Type 0 where
   -- C is "the worst-case execution time". Who has no unit to run is no job
   pub some : (l j : ℕ) → l < v .n → 1 ≤ J .cost l j
   pub run : (l j : ℕ) → l < v .n → J .cost l j ≤ v .C (level l)
-  -- "requests for exclusive access to the shared resources", of which there are so many
+  -- "requests for exclusive access to the shared resources", whose numbers go up to `maxResources`
   pub known : (l j u : ℕ) → l < v .n → u < J .cost l j → J .lock l j u ≤ maxResources
   -- N is "the maximum number of such requests by any single job"
   pub count : (l j k : ℕ) → l < v .n → k < maxResources → countTo (J .cost l j) (λ u. inLock J l j k u && J .starts l j u) ≤ v .N (level l) (resource k)

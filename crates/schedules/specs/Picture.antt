@@ -14,10 +14,10 @@ pub record Picture : Type 0 where
   pub gaps : List ℕ
   -- the units of a job, all jobs of a task being alike: `-` uses no resource, a digit that one
   pub units : List (List ℕ)
-  -- what it does at the instants of a round, round after round: `r` runs; `R` runs and holds a lock; `h` holds one and does not run, and `H` too, without having asked; `a` has asked for one in vain; `.` none of these
+  -- what it does at the instants of a cycle, cycle after cycle: `r` runs; `R` runs and holds a lock; `h` holds one and does not run, and `H` too, without having asked; `a` has asked for one and does not have it; `.` none of these
   pub doing : List (List ℕ)
-  -- how many instants a round has
-  pub round : ℕ
+  -- how many instants a cycle has
+  pub cycle : ℕ
 
 abbrev unitsOf : Picture → ℕ → List ℕ
 unitsOf p l = getD (p .units) l []
@@ -41,7 +41,7 @@ jobsOf p =
 
 -- what stands at the instant s
 abbrev drawnAt : Picture → ℕ → ℕ → ℕ
-drawnAt p s l = getD (getD (p .doing) l []) (s - s / p .round * p .round) 46
+drawnAt p s l = getD (getD (p .doing) l []) (s - s / p .cycle * p .cycle) 46
 
 -- `r` is 114, `R` 82, `h` 104, `H` 72, `a` 97
 unfoldable pub runOf : Picture → Schedule

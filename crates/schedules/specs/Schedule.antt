@@ -1,6 +1,6 @@
--- Schedules under global fixed priorities with priority inheritance (the report's section II-A from "Multiprocessor scheduling" on, and III-A), by what holds at each instant, and not by how a kernel brings it about. It takes no time for that.
+-- Schedules under global fixed priorities with priority inheritance (the report's section II-A from "Multiprocessor scheduling" on, and III-A), by what holds at each instant, and not by how a kernel brings it about; a kernel takes no time for it.
 -- Some things are left open, since the theorem needs none of them: that no more than m run; whether a lock is handed over at once, or taken when its next holder is scheduled; whether a job asks for it before it is scheduled,
--- or even before it is there; which of two that ask at one instant gets it.
+-- or even before its release; whether who holds a lock has asked for it; which of two that ask at one instant gets it.
 use Prim.Native.Nat.{ℕ, zero, suc, _+_, _≤_, _<_}
 use mathlib.Core.Path.{_≡_}
 use mathlib.Core.Bool.{Bool, true, false, not, _&&_, _||_}
@@ -47,7 +47,8 @@ begins J S s l = J .starts l (progress J S s l .job) (progress J S s l .unit)
 
 -- ---- who waits, and at which priority a task is
 
--- w "made a request .. and this request has not been granted", and l holds the lock
+-- w "made a request .. and this request has not been granted", and l holds the lock. Of the report's other conditions of being "directly blocked" one, that w is among the m highest, is left out: kernels that go by it break bounds. So is the
+-- other, that l is lower: who waits for a higher one takes no place either
 abbrev pub waitsFor : JobSet → Schedule → ℕ → ℕ → ℕ → Bool
 waitsFor J S s w l = (S .asked s w && not (S .holds s w)) && (S .holds s l && eqb (needs J S s w) (needs J S s l))
 
@@ -87,7 +88,7 @@ pub data KernelFact : Type 0 where
 unfoldable pub FactAt : View → JobSet → Schedule → ℕ → KernelFact → Type 0
 -- only a job that is there runs,
 FactAt v J S s runs-pending = (l : ℕ) → l < v .n → S .runs s l ≡ true → pending J S s l ≡ true
--- and only with the lock that they need
+-- and only with the lock that its unit needs
 FactAt v J S s runs-locked = (l : ℕ) → l < v .n → S .runs s l ≡ true → 0 < needs J S s l → S .holds s l ≡ true
 -- "global fixed-priority preemptive scheduling": if a job is there and neither runs nor waits, then m run whose effective priorities are no lower than its own. One that waits takes none of the m places
 FactAt v J S s conserves =
@@ -111,7 +112,7 @@ FactAt v J S s not-past =
 abbrev pub UnderPIP : View → JobSet → Schedule → ℕ → Type 0
 UnderPIP v J S E = (s : ℕ) → s < E → (f : KernelFact) → FactAt v J S s f
 
--- ---- "the response time of a job be the time from when the job arrives until its execution has finished"
+-- ---- section III-B: "the response time of a job be the time from when the job arrives until its execution has finished"
 
 -- job j of task l is finished by the instant s
 abbrev pub Finished : JobSet → Schedule → ℕ → ℕ → ℕ → Type 0

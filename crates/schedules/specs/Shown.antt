@@ -37,7 +37,7 @@ shownTable =
 abbrev pub shownBounds : List ℕ
 shownBounds = 5 ∷ 3 ∷ 11 ∷ 14 ∷ []
 
--- Tasks 1 and 4 come first. At 1 both want the lock, and 4 gets it; 2 and 3 come too. So that 1 does not have to wait for those as well, 4 runs at its priority until it releases the lock. From 7 on nothing runs
+-- Tasks 1 and 4 come first. At 1 both want the lock, and 4 gets it; 2 and 3 come too. So that 1 does not have to wait for those as well, 4 runs at its priority until it releases the lock. From 7 on nothing is left to run
 abbrev pub shownPicture : Picture
 shownPicture =
     record {
@@ -50,7 +50,7 @@ shownPicture =
           ∷ bytes "....rrr............."
           ∷ bytes "rRRR.r.............."
           ∷ [];
-      round = 20;
+      cycle = 20;
     }
 
 abbrev pub shownJobs : JobSet
@@ -64,13 +64,13 @@ pub record Shown : Type 0 where
   pub bounded : (i : ℕ) → i < 4 → Least (demandOf (viewOf shownTable) (level i)) (viewOf shownTable .D (level i)) (getD shownBounds i 0)
   pub generated : Generated (viewOf shownTable) shownJobs
   pub scheduled : (E : ℕ) → UnderPIP (viewOf shownTable) shownJobs shownRun E
-  -- never do more than m run; and from 7 on none, until all come again
+  -- never do more than m run, and at 7 none
   pub places : (s : ℕ) → countTo 4 (shownRun .runs s) ≤ 2
   pub idle : countTo 4 (shownRun .runs 7) ≡ 0
   -- task 1 waits, and task 4, which has its lock, runs at its priority, while task 3, which is above it, is ready and does not run;
   pub waiting : waits (viewOf shownTable) shownJobs shownRun 1 0 ≡ true
   pub inherits : priority (viewOf shownTable) shownJobs shownRun 1 3 ≡ 0
-  pub ahead : (shownRun .runs 1 3 ≡ true) × (shownRun .runs 1 2 ≡ false) × (pending shownJobs shownRun 1 2 ≡ true) × (waits (viewOf shownTable) shownJobs shownRun 1 2 ≡ false)
+  pub raised : (shownRun .runs 1 3 ≡ true) × (shownRun .runs 1 2 ≡ false) × (pending shownJobs shownRun 1 2 ≡ true) × (waits (viewOf shownTable) shownJobs shownRun 1 2 ≡ false)
   -- the lock is handed over, and task 4 is preempted, being ready;
   pub handed : (shownRun .holds 3 3 ≡ true) × (shownRun .holds 4 0 ≡ true)
   pub preempted : (shownRun .runs 3 3 ≡ true) × (shownRun .runs 4 3 ≡ false) × (pending shownJobs shownRun 4 3 ≡ true) × (waits (viewOf shownTable) shownJobs shownRun 4 3 ≡ false)
@@ -104,7 +104,7 @@ missPicture =
           ∷ bytes ".......aRra"
           ∷ bytes "RRRRR......"
           ∷ [];
-      round = 20;
+      cycle = 20;
     }
 
 pub record BesideMiss : Type 0 where

@@ -10,14 +10,14 @@ use Rattle.schedules.specs.Jobs.{JobSet, Generated}
 use Rattle.schedules.specs.Schedule.{Schedule, KernelFact, UnderPIP, RespondsWithin}
 use Rattle.schedules.specs.Wrong.{UnderPIPBut, OtherKernel, UnderOther, WrongDemand, wrongDemand}
 
--- "a constrained deadline sporadic task system": C ≤ D ≤ T, and the lock times are within C. An accepted table is one
+-- "a constrained deadline sporadic task system": C ≤ D ≤ T; and at least one processor, no T of 0, lock times within C, and none without a request. An accepted table is one
 pub record Constrained (v : View) : Type 0 where
   pub some : 1 ≤ v .cpus
   pub positive : (l : ℕ) → l < v .n → 1 ≤ v .T (level l)
   pub run : (l : ℕ) → l < v .n → v .C (level l) ≤ v .D (level l)
   pub deadline : (l : ℕ) → l < v .n → v .D (level l) ≤ v .T (level l)
   pub totals : (l : ℕ) → l < v .n → allCT v (level l) ≤ v .C (level l)
-  pub unused : (l k : ℕ) → l < v .n → k < maxResources → v .N (level l) (resource k) ≡ 0 → v .CT (level l) (resource k) ≡ 0
+  pub unused : (l r : ℕ) → l < v .n → r < maxResources → v .N (level l) (resource r) ≡ 0 → v .CT (level l) (resource r) ≡ 0
 
 -- a table in k-ths of its time unit, so that an instant need not be a whole microsecond
 abbrev pub finer : ℕ → View → View
@@ -54,10 +54,10 @@ pub record Theorem1 : Type 0 where
   pub bounds : NoneLonger demandOf Closed UnderPIP
   -- where k is 1, the time unit is the table's
   pub whole : (v : View) → finer 1 v ≡ v
-  -- none of the facts about the kernel can be left out, and other kernels break the bounds;
+  -- none of the facts about the kernel can be left out, and on two other kinds of kernels bounds break;
   pub needed : (g : KernelFact) → NoneLonger demandOf Closed (UnderPIPBut g) → ⊥
   pub kernels : (o : OtherKernel) → NoneLonger demandOf Closed (UnderOther o) → ⊥
-  -- nor can a term of the demand be left out, or be smaller;
+  -- nor can DB, S, O, F or L be left out, or the demand be smaller in the other ways of `WrongDemand`;
   pub terms : (d : WrongDemand) → NoneLonger (wrongDemand d) Closed UnderPIP → ⊥
   -- nor the tasks that are read: that a task itself has a bound is not enough
   pub all-read : NoneLonger demandOf (λ v X. Unit) UnderPIP → ⊥

@@ -8,7 +8,7 @@ use Rattle.basics.specs.Over.{countTo}
 use Rattle.table.specs.declared.Level.{Level}
 use Rattle.theory.specs.Work.{workload, quotient}
 use Rattle.theory.specs.View.{View, overResources, overBelow, largestBelow, uses, ceiling}
-use Rattle.theory.specs.Demand.{DB, S, O, F, L, loadOf, demandOf}
+use Rattle.theory.specs.Demand.{DB, S as STerm, O as OTerm, F as FTerm, L as LTerm, loadOf, demandOf}
 use Rattle.schedules.specs.Jobs.{JobSet}
 use Rattle.schedules.specs.Schedule.{Schedule, pending, waits, priority, KernelFact, conserves, FactAt}
 
@@ -53,14 +53,14 @@ abbrev demandBy : View → Level → ℕ → ℕ → ℕ → ℕ → ℕ → ℕ
 demandBy v i DB S O F L = v .C i + DB + S + pick (leb (i .0) (v .cpus)) 0 (quotient O F L (v .cpus))
 
 unfoldable pub wrongDemand : WrongDemand → View → Level → ℕ → ℕ
-wrongDemand no-DB v i t = demandBy v i 0 (S workload v i t) (O workload v i t) (F workload v i t) (L workload v i t)
-wrongDemand no-S v i t = demandBy v i (DB v i) 0 (O workload v i t) (F workload v i t) (L workload v i t)
-wrongDemand no-O v i t = demandBy v i (DB v i) (S workload v i t) 0 (F workload v i t) (L workload v i t)
-wrongDemand no-F v i t = demandBy v i (DB v i) (S workload v i t) (O workload v i t) 0 (L workload v i t)
-wrongDemand no-L v i t = demandBy v i (DB v i) (S workload v i t) (O workload v i t) (F workload v i t) 0
+wrongDemand no-DB v i t = demandBy v i 0 (STerm workload v i t) (OTerm workload v i t) (FTerm workload v i t) (LTerm workload v i t)
+wrongDemand no-S v i t = demandBy v i (DB v i) 0 (OTerm workload v i t) (FTerm workload v i t) (LTerm workload v i t)
+wrongDemand no-O v i t = demandBy v i (DB v i) (STerm workload v i t) 0 (FTerm workload v i t) (LTerm workload v i t)
+wrongDemand no-F v i t = demandBy v i (DB v i) (STerm workload v i t) (OTerm workload v i t) 0 (LTerm workload v i t)
+wrongDemand no-L v i t = demandBy v i (DB v i) (STerm workload v i t) (OTerm workload v i t) (FTerm workload v i t) 0
 wrongDemand once-a-lock v i t =
-    demandBy v i (overResources (λ k. only (uses v i k) (largestBelow v i (λ l. v .c l k)))) (S workload v i t) (O workload v i t) (F workload v i t) (L workload v i t)
+    demandBy v i (overResources (λ k. only (uses v i k) (largestBelow v i (λ l. v .c l k)))) (STerm workload v i t) (OTerm workload v i t) (FTerm workload v i t) (LTerm workload v i t)
 wrongDemand next-ceiling v i t =
-    demandBy v i (DB v i) (S workload v i t) (O workload v i t) (F workload v i t)
+    demandBy v i (DB v i) (STerm workload v i t) (OTerm workload v i t) (FTerm workload v i t)
     (overBelow v i (λ l. loadOf workload v t l (overResources (λ k. only (ltb (suc (ceiling v k .0)) (i .0)) (v .CT l k)))))
 wrongDemand one-less v i t = demandOf v i t - 1

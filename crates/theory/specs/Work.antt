@@ -12,7 +12,7 @@ uncapped T D (suc t) x = jobs T x (suc t + D - x)
 
 -- request 3/12: "One task cannot run more than t in a window of t. From now on the workload is the smaller of t and the old one."
 -- What it presumes: by the D in "a = t − x + D" the job that is carried into the window comes as late as its deadline and no later (the report's Figure 3). So it bounds what the task runs in a window
--- only if the task meets that deadline, and then it does (`windows`). A bound whose demand has this workload presumes so; the tasks whose workloads a demand has are `Reads` of `promises`.
+-- only if the task meets that deadline, and then it does (`windows`). A bound whose demand has this workload presumes that the task meets it; the tasks whose workloads a demand has are `Reads` of `promises`.
 unfoldable pub workload : ℕ → ℕ → ℕ → ℕ → ℕ
 workload T D t x = min t (uncapped T D t x)
 

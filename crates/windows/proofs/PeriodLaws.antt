@@ -6,11 +6,12 @@ use native.Mathlib.Nat.{mul-add-div-right, div-eq-of-lt, div-mul-le-self, lt-div
 use native.Mathlib.Decide.{decLt, ℕ-discrete}
 use native.Mathlib.Omega.{arith}
 use Rattle.basics.specs.Over.{sumTo}
+use Rattle.basics.proofs.SumLaws.{sum-first}
 use Rattle.theory.specs.Work.{jobs}
 
 -- ---- jobs T x a, by whole periods and the rest
 
-pub jobs-at : (T x q r : ℕ) → r < T → jobs T x (q * T + r) ≡ q * x + min x r
+jobs-at : (T x q r : ℕ) → r < T → jobs T x (q * T + r) ≡ q * x + min x r
 unfolding jobs
 jobs-at T x q r h =
     let pos : 0 < T = omega arith in
@@ -23,19 +24,19 @@ pub record Parted (T a : ℕ) : Type 0 where
   pub small : r < T
   pub sum : a ≡ q * T + r
 
-pub parted : (T a : ℕ) → 0 < T → Parted T a
+parted : (T a : ℕ) → 0 < T → Parted T a
 parted T a pos =
     let l = div-mul-le-self a T in
     let m : a < a / T * T + T = lt-div-mul-add pos in
     record { q = a / T; r = a - a / T * T; small = omega arith; sum = omega arith }
 
-pub jobs-short : (T x a : ℕ) → a < T → jobs T x a ≡ min x a
+jobs-short : (T x a : ℕ) → a < T → jobs T x a ≡ min x a
 jobs-short T x a h =
     let z : 0 * T + a ≡ a = omega arith in
     let e : jobs T x a ≡ 0 * x + min x a = subst (λ (b : ℕ). jobs T x b ≡ 0 * x + min x a) z (jobs-at T x 0 a h) in
     omega arith
 
-pub jobs-period : (T x a : ℕ) → 0 < T → jobs T x (a + T) ≡ x + jobs T x a
+jobs-period : (T x a : ℕ) → 0 < T → jobs T x (a + T) ≡ x + jobs T x a
 jobs-period T x a pos = let p = parted T a pos in go (p .q) (p .r) (p .small) (p .sum)
   where
     go : (q r : ℕ) → r < T → a ≡ q * T + r → jobs T x (a + T) ≡ x + jobs T x a
@@ -46,7 +47,7 @@ jobs-period T x a pos = let p = parted T a pos in go (p .q) (p .r) (p .small) (p
         rw (u, e) (omega arith)
 
 -- one more, and it is no less and at most one more
-pub jobs-next : (T x a : ℕ) → 0 < T → x ≤ T → (jobs T x a ≤ jobs T x (suc a)) × (jobs T x (suc a) ≤ suc (jobs T x a))
+jobs-next : (T x a : ℕ) → 0 < T → x ≤ T → (jobs T x a ≤ jobs T x (suc a)) × (jobs T x (suc a) ≤ suc (jobs T x a))
 jobs-next T x a pos h =
     let p = parted T a pos in
     go (p .q) (p .r) (p .small) (p .sum) (ℕ-discrete (suc (p .r)) T)
@@ -63,7 +64,7 @@ jobs-next T x a pos h =
         let u : suc a ≡ q * T + suc r = omega arith in
         rw (u, e) (omega arith, omega arith)
 
-pub jobs-more : (T x a d : ℕ) → 0 < T → x ≤ T → (jobs T x a ≤ jobs T x (a + d)) × (jobs T x (a + d) ≤ jobs T x a + d)
+jobs-more : (T x a d : ℕ) → 0 < T → x ≤ T → (jobs T x a ≤ jobs T x (a + d)) × (jobs T x (a + d) ≤ jobs T x a + d)
 jobs-more T x a zero pos h = let z : a + 0 ≡ a = omega arith in rw z (omega arith, omega arith)
 jobs-more T x a (suc d) pos h =
     let i = jobs-more T x a d pos h in
@@ -71,15 +72,10 @@ jobs-more T x a (suc d) pos h =
     let z : a + suc d ≡ suc (a + d) = omega arith in
     rw z (omega arith, omega arith)
 
--- ---- the first job of several
-
-pub sum-first : (n : ℕ) (g : ℕ → ℕ) → sumTo (suc n) g ≡ g 0 + sumTo n (λ j. g (suc j))
-unfolding sumTo
-sum-first zero g = omega arith
-sum-first (suc n) g = omega (arith, sum-first n g)
+-- ---- several jobs
 
 -- jobs from s on, T apart: up to E, whole periods and a rest
-pub tail : (T x : ℕ) → 0 < T → x ≤ T → (k s E : ℕ) (r y : ℕ → ℕ) → s ≤ r 0 → ((j : ℕ) → r j + T ≤ r (suc j))
+tail : (T x : ℕ) → 0 < T → x ≤ T → (k s E : ℕ) (r y : ℕ → ℕ) → s ≤ r 0 → ((j : ℕ) → r j + T ≤ r (suc j))
     → ((j : ℕ) → y j ≤ x) → ((j : ℕ) → y j ≤ E - r j) → sumTo k y ≤ jobs T x (E - s)
 unfolding sumTo
 tail T x pos h zero s E r y l a b c = zero-le
@@ -97,7 +93,7 @@ tail T x pos h (suc k) s E r y l a b c =
         rw e (omega (arith, jobs-period T x (E - (s + T)) pos, b 0))
 
 -- the first job ends at most u after the window's start, the others are released T apart after it
-pub crossing : (T x b u t y rest : ℕ) → 0 < T → x ≤ T → t + x ≤ b → y ≤ x → y ≤ u → y ≤ t → rest ≤ jobs T x (b - u - T) → y + rest ≤ jobs T x (b - x)
+crossing : (T x b u t y rest : ℕ) → 0 < T → x ≤ T → t + x ≤ b → y ≤ x → y ≤ u → y ≤ t → rest ≤ jobs T x (b - u - T) → y + rest ≤ jobs T x (b - x)
 crossing T x b u t y rest pos h k hx hu ht i = go (decLt (b - x) T) (decLt u x) (decLt (b - u) T)
   where
     go : Dec (b - x < T) → Dec (u < x) → Dec (b - u < T) → y + rest ≤ jobs T x (b - x)

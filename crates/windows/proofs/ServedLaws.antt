@@ -3,11 +3,12 @@
 use Prim.Native.Nat.{ℕ, zero, suc, _+_, _-_, _*_, _≤_, _<_, zero-le}
 use mathlib.Core.Path.{_≡_, refl, sym, subst}
 use mathlib.Core.Bool.{Bool, true, false}
-use native.Mathlib.Nat.{le-refl, not-suc-le-zero}
+use native.Mathlib.Nat.{not-suc-le-zero}
 use native.Mathlib.Decide.{ℕ-discrete}
 use native.Mathlib.Omega.{arith}
 use Rattle.basics.specs.Choice.{only}
 use Rattle.basics.specs.Over.{sumTo, countTo}
+use Rattle.basics.proofs.ChoiceLaws.{only-below}
 use Rattle.basics.proofs.SumLaws.{sum-bound}
 use Rattle.basics.proofs.CountLaws.{sum-swap, count-none}
 use Rattle.theory.specs.Work.{jobs, uncapped, workload}
@@ -19,22 +20,18 @@ use Rattle.windows.proofs.PeriodLaws.{Portions, portions-sum}
 unfoldable pub hits : (ℕ → Bool) → ℕ → ℕ → ℕ
 hits p A t = sumTo t (λ s. only (p (A + s)) 1)
 
-one : (b : Bool) → only b 1 ≤ 1
-one true = le-refl 1
-one false = zero-le
-
-pub hits-window : (p : ℕ → Bool) (A t : ℕ) → hits p A t ≤ t
+hits-window : (p : ℕ → Bool) (A t : ℕ) → hits p A t ≤ t
 unfolding hits
-hits-window p A t = omega (arith, sum-bound t 1 (λ s. only (p (A + s)) 1) (λ s h. one (p (A + s))))
+hits-window p A t = omega (arith, sum-bound t 1 (λ s. only (p (A + s)) 1) (λ s h. only-below (p (A + s)) 1))
 
--- no more than in all that came before too
+-- with what came before the window, all up to its end
 pub hits-all : (p : ℕ → Bool) (A t : ℕ) → countTo A p + hits p A t ≡ countTo (A + t) p
 unfolding hits sumTo
 hits-all p A zero = let z : A + 0 ≡ A = omega arith in rw z (omega arith)
 hits-all p A (suc t) = let z : A + suc t ≡ suc (A + t) = omega arith in rw z (omega (arith, hits-all p A t))
 
 -- never before r
-pub hits-after : (p : ℕ → Bool) (A t r : ℕ) → ((s : ℕ) → s < A + t → p s ≡ true → r ≤ s) → hits p A t ≤ A + t - r
+hits-after : (p : ℕ → Bool) (A t r : ℕ) → ((s : ℕ) → s < A + t → p s ≡ true → r ≤ s) → hits p A t ≤ A + t - r
 unfolding hits sumTo
 hits-after p A zero r h = zero-le
 hits-after p A (suc t) r h = go (p (A + t)) refl (hits-after p A t r (λ s l. h s (omega arith)))
@@ -44,7 +41,7 @@ hits-after p A (suc t) r h = go (p (A + t)) refl (hits-after p A t r (λ s l. h 
     go false e i = omega arith
 
 -- never at e or later
-pub hits-before : (p : ℕ → Bool) (A t e : ℕ) → ((s : ℕ) → s < A + t → p s ≡ true → s < e) → hits p A t ≤ e - A
+hits-before : (p : ℕ → Bool) (A t e : ℕ) → ((s : ℕ) → s < A + t → p s ≡ true → s < e) → hits p A t ≤ e - A
 unfolding hits sumTo
 hits-before p A zero e h = zero-le
 hits-before p A (suc t) e h = go (p (A + t)) refl (hits-before p A t e (λ s l. h s (omega arith)))
@@ -55,7 +52,7 @@ hits-before p A (suc t) e h = go (p (A + t)) refl (hits-before p A t e (λ s l. 
 
 -- ---- at most one job of a task at an instant
 
-pub later : (T : ℕ) (r : ℕ → ℕ) → ((j : ℕ) → r j + T ≤ r (suc j)) → (n j : ℕ) → j < n → r j + T ≤ r n
+later : (T : ℕ) (r : ℕ → ℕ) → ((j : ℕ) → r j + T ≤ r (suc j)) → (n j : ℕ) → j < n → r j + T ≤ r n
 later T r a zero j h = absurd (not-suc-le-zero h)
 later T r a (suc n) j h = go (ℕ-discrete j n) (λ l. later T r a n j l)
   where
@@ -64,7 +61,7 @@ later T r a (suc n) j h = go (ℕ-discrete j n) (λ l. later T r a n j l)
     go (no d) i = omega (arith, i (omega arith), a n)
 
 module _ (T D x E : ℕ) (r : ℕ → ℕ) (ticks : ℕ → ℕ → Bool) (c : Sporadic T D x E r ticks) where
-  pub alone : (s : ℕ) → s < E → D ≤ T → (K : ℕ) → countTo K (ticks s) ≤ 1
+  alone : (s : ℕ) → s < E → D ≤ T → (K : ℕ) → countTo K (ticks s) ≤ 1
   unfolding sumTo
   alone s l h zero = zero-le
   alone s l h (suc K) = go (ticks s K) refl (alone s l h K)
