@@ -2,12 +2,11 @@
 -- Assumes nothing.
 use Prim.Native.Nat.{ℕ, _+_, _*_, _≤_, _<_}
 use mathlib.Core.Path.{_≡_, refl, sym, subst, ap, _∙_}
-use mathlib.Core.Bool.{Bool, true}
 use mathlib.Core.List.{List}
 use mathlib.Core.Logic.{_⊎_, inl, inr}
 use native.Mathlib.Nat.{le-refl}
 use native.Mathlib.Omega.{arith}
-use lib.Dec.{eqb, lit<, lit≤}
+use lib.Dec.{lit<, lit≤}
 use lib.ListN.{getD}
 use Rattle.basics.specs.Over.{sumTo}
 use Rattle.basics.specs.Text.{bytes}
@@ -46,7 +45,7 @@ use Rattle.analysis.specs.Answers.{boundOf}
 use Rattle.analysis.proofs.ByRounds.{rounds-right, known}
 use Rattle.promises.specs.Demand2.{demandIn, deadlineIn}
 use Rattle.promises.specs.Rounds.{PrintsRows}
-use Rattle.promises.specs.Responds.{NoJobLonger, RowsMeet, ReadNoOther, shownListing, missListing, Responds}
+use Rattle.promises.specs.Responds.{NoJobLonger, RowsMeet, ReadNoOther, InTurn, further, shownListing, missListing, Responds}
 use Rattle.promises.proofs.Demand2Holds.{demand2}
 use Rattle.promises.proofs.RoundsHold.{rounds-hold}
 use Rattle.promises.proofs.ThreeTasks.{some-allowed}
@@ -78,14 +77,14 @@ met-least t i allowance r u e m =
     rw v at (rounds-right workload workload-rises t i (k .0) (k .1) allowance)
 
 -- a set of tasks that read no others is closed
-reads-closed : (t : Table) → tableFault t ≡ Fine → (X : ℕ → Bool) → ReadNoOther t X → Closed (viewOf t) X
+reads-closed : (t : Table) → tableFault t ≡ Fine → (X : ℕ → Type 0) → ReadNoOther t X → Closed (viewOf t) X
 reads-closed t fine X c i l h x k u = c i l h x k (units-read (viewOf t) (fine-fitting t fine) (level i) l k u)
 
-others-meet : (allowance : ℕ) (s : List ℕ) (t : Table) (row : ℕ → Counted) (X : ℕ → Bool) (micros : ℕ → ℕ) → PrintsRows allowance s t row
+others-meet : (allowance : ℕ) (s : List ℕ) (t : Table) (row : ℕ → Counted) (X : ℕ → Type 0) (micros : ℕ → ℕ) → PrintsRows allowance s t row
     → ReadNoOther t X → RowsMeet t row X micros → NoJobLonger t X micros
 others-meet allowance s t row X micros p c m k pos J o S E r i h x =
     let fine : tableFault t ≡ Fine = known t i allowance (p .answer i h) .0 in
-    let least : (i : ℕ) → i < t .n → X i ≡ true → Least (demandIn t i) (deadlineIn t i) (micros i) = λ i h x. met-least t i allowance (row i) (micros i) (p .answer i h) (m i h x) in
+    let least : (i : ℕ) → i < t .n → X i → Least (demandIn t i) (deadlineIn t i) (micros i) = λ i h x. met-least t i allowance (row i) (micros i) (p .answer i h) (m i h x) in
     theorem1-holds .bounds (viewOf t) (fine-constrained t fine) X (reads-closed t fine X c) micros
     (record { low = λ i h x. least i h x .low; high = λ i h x. least i h x .high; covers = λ i h x. least i h x .meets }) k pos J o S E r i h x
 
@@ -105,13 +104,13 @@ least-met s t row p i u h l =
     let same : v .0 ≡ row i = sym (known t i reportAllowance (v .1) .3) ∙ k .3 in
     ap (λ (c : Counted). c .verdict) (sym same) ∙ v .2 .meets (rounds-hold .never-open t i (v .0) (v .1)) u .1 l
 
-shown-rows : (row : ℕ → Counted) × PrintsRows reportAllowance (bytes shownListing) shownTable row × RowsMeet shownTable row (λ i. true) (λ i. getD shownBounds i 0)
+shown-rows : (row : ℕ → Counted) × PrintsRows reportAllowance (bytes shownListing) shownTable row × RowsMeet shownTable row (λ i. Unit) (λ i. getD shownBounds i 0)
 unfolding shownTable
 shown-rows =
     let p = rounds-hold .prints reportAllowance (bytes shownListing) shownTable some-allowed shown-listing in
     (p .0, p .1, λ i h x. least-met (bytes shownListing) shownTable (p .0) (p .1) i (getD shownBounds i 0) h (shown-holds .bounded i h))
 
-not-alone : ((allowance : ℕ) (s : List ℕ) (t : Table) (row : ℕ → Counted) (i u : ℕ) → PrintsRows allowance s t row → i < t .n → row i .verdict ≡ Meets u → NoJobLonger t (eqb i) (λ l. u)) → ⊥
+not-alone : ((allowance : ℕ) (s : List ℕ) (t : Table) (row : ℕ → Counted) (i u : ℕ) → PrintsRows allowance s t row → i < t .n → row i .verdict ≡ Meets u → NoJobLonger t (λ l. l ≡ i) (λ l. u)) → ⊥
 unfolding missTable jobsOf
 not-alone claim =
     let p = rounds-hold .prints reportAllowance (bytes missListing) missTable some-allowed miss-listing in
@@ -127,7 +126,8 @@ not-alone claim =
 pub responds-hold : Responds
 responds-hold =
     record {
-      all-meet = λ allowance s t row micros p m. others-meet allowance s t row (λ i. true) micros p (λ i l h x k u. refl) m;
+      all-meet = λ allowance s t row micros p m. others-meet allowance s t row (λ i. Unit) micros p (λ i l h x k u. tt) m;
+      read-meet = λ allowance s t row i micros p m. others-meet allowance s t row (InTurn t i) micros p (λ q l h x k r. further q l h x r) m;
       others-meet = others-meet;
       not-alone = not-alone;
       theorem1 = theorem1-holds;

@@ -45,24 +45,24 @@ module _ (v : View) where
         unused = λ l k h i e. eqb-true _ _ (pick-is _ _ (all-at maxResources k _ (all-at (v .n) l _ (rule 5 tt) h) i) (eq-eqb _ _ e));
       }
 
-  module _ (demand : View → Level → ℕ → ℕ) (X : ℕ → Bool) (R : ℕ → ℕ) where
+  module _ (demand : View → Level → ℕ → ℕ) (x : ℕ → Bool) (R : ℕ → ℕ) where
     -- the rules of `Covers`, in its order
     unfoldable pub coversRules : List Bool
     coversRules =
-        allTo (v .n) (λ i. pick (X i) (leb 1 (R i)) true)
-        ∷ allTo (v .n) (λ i. pick (X i) (leb (R i) (v .D (level i))) true)
-        ∷ allTo (v .n) (λ i. pick (X i) (leb (demand v (level i) (R i)) (R i)) true)
+        allTo (v .n) (λ i. pick (x i) (leb 1 (R i)) true)
+        ∷ allTo (v .n) (λ i. pick (x i) (leb (R i) (v .D (level i))) true)
+        ∷ allTo (v .n) (λ i. pick (x i) (leb (demand v (level i) (R i)) (R i)) true)
         ∷ []
 
     abbrev pub coversTest : Bool
     coversTest = allTo 3 (λ r. getD coversRules r true)
 
-    pub covers-by-test : coversTest ≡ true → Covers demand v X R
+    pub covers-by-test : coversTest ≡ true → Covers demand v (λ i. x i ≡ true) R
     unfolding coversRules
     covers-by-test e =
         let rule : (r : ℕ) → T (ltb r 3) → getD coversRules r true ≡ true = λ r h. all-at 3 r _ e (lit< h) in
         record {
-          low = λ i h x. leb-true _ _ (pick-is _ _ (all-at (v .n) i _ (rule 0 tt) h) x);
-          high = λ i h x. leb-true _ _ (pick-is _ _ (all-at (v .n) i _ (rule 1 tt) h) x);
-          covers = λ i h x. leb-true _ _ (pick-is _ _ (all-at (v .n) i _ (rule 2 tt) h) x);
+          low = λ i h y. leb-true _ _ (pick-is _ _ (all-at (v .n) i _ (rule 0 tt) h) y);
+          high = λ i h y. leb-true _ _ (pick-is _ _ (all-at (v .n) i _ (rule 1 tt) h) y);
+          covers = λ i h y. leb-true _ _ (pick-is _ _ (all-at (v .n) i _ (rule 2 tt) h) y);
         }

@@ -66,14 +66,14 @@ module _ (k : ℕ) (pos : 1 ≤ k) where
         unused = λ l r h m e. rw (c .unused l r h m e) (mul-zero k);
       }
 
-  pub closed-finer : (v : View) (X : ℕ → Bool) → Closed v X → Closed (finer k v) X
+  pub closed-finer : (v : View) (X : ℕ → Type 0) → Closed v X → Closed (finer k v) X
   closed-finer v X c i l m x n u = c i l m x n (some (unitsRead v (level i) (level l)) (rw (units-times v (level i) (level l)) at u))
     where
       some : (u : ℕ) → 1 ≤ k * u → 1 ≤ u
       some zero e = omega (arith, mul-zero k)
       some (suc u) e = omega arith
 
-  pub covers-finer : (v : View) (X : ℕ → Bool) (R : ℕ → ℕ) → 1 ≤ v .cpus → Covers demandOf v X R → Covers demandOf (finer k v) X (λ i. k * R i)
+  pub covers-finer : (v : View) (X : ℕ → Type 0) (R : ℕ → ℕ) → 1 ≤ v .cpus → Covers demandOf v X R → Covers demandOf (finer k v) X (λ i. k * R i)
   covers-finer v X R h c =
       record {
         low = λ i m x. one-le-mul pos (c .low i m x);

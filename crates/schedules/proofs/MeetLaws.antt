@@ -25,15 +25,15 @@ use Rattle.schedules.proofs.TermLaws.{Met, S-most}
 use Rattle.schedules.proofs.KindLaws.{kinds, full-most}
 use Rattle.schedules.proofs.BlockLaws.{DB-most}
 
-module _ (v : View) (J : JobSet) (S : Schedule) (E : ℕ) (fit : Constrained v) (o : Generated v J) (p : Obeys v J S E) (X : ℕ → Bool) (closed : Closed v X) (R : ℕ → ℕ)
-    (low : (i : ℕ) → i < v .n → X i ≡ true → 1 ≤ R i) (high : (i : ℕ) → i < v .n → X i ≡ true → R i ≤ v .D (level i)) (covers : (i : ℕ) → i < v .n → X i ≡ true → v .C (level i) + DB v (level i) + STerm workload v (level i) (R i)
+module _ (v : View) (J : JobSet) (S : Schedule) (E : ℕ) (fit : Constrained v) (o : Generated v J) (p : Obeys v J S E) (X : ℕ → Type 0) (closed : Closed v X) (R : ℕ → ℕ)
+    (low : (i : ℕ) → i < v .n → X i → 1 ≤ R i) (high : (i : ℕ) → i < v .n → X i → R i ≤ v .D (level i)) (covers : (i : ℕ) → i < v .n → X i → v .C (level i) + DB v (level i) + STerm workload v (level i) (R i)
     + pick (leb (suc i) (v .cpus)) 0 (quotient (OTerm workload v (level i) (R i)) (FTerm workload v (level i) (R i)) (LTerm workload v (level i) (R i)) (v .cpus)) ≤ R i) where
   -- no job of these tasks is late before the instant B
   abbrev NoneLate : ℕ → Type 0
-  NoneLate B = (l s j : ℕ) → l < v .n → X l ≡ true → s < B → J .release l j + R l ≤ s → Finished J S l j s
+  NoneLate B = (l s j : ℕ) → l < v .n → X l → s < B → J .release l j + R l ≤ s → Finished J S l j s
 
   -- a job that is due at an instant before which none is late
-  module _ (i j : ℕ) (l : i < v .n) (x : X i ≡ true) (end : J .release i j + R i ≤ E) (none : NoneLate (J .release i j + R i)) where
+  module _ (i j : ℕ) (l : i < v .n) (x : X i) (end : J .release i j + R i ≤ E) (none : NoneLate (J .release i j + R i)) where
     some : (j : ℕ) → 1 ≤ J .cost i j
     some j = o .some i j l
 
@@ -101,5 +101,5 @@ module _ (v : View) (J : JobSet) (S : Schedule) (E : ℕ) (fit : Constrained v) 
       go n (no d) (no f) =
           omega (arith, n l (J .release l j + R l) j k x (omega arith) (le-refl _), job-rises J S l (λ q. o .some l q k) (J .release l j + R l) s e)
 
-  pub in-time : (i : ℕ) → i < v .n → X i ≡ true → RespondsWithin J S E i (R i)
+  pub in-time : (i : ℕ) → i < v .n → X i → RespondsWithin J S E i (R i)
   in-time i l x j s e b = never-late (suc s) (omega arith) i s j l x (omega arith) e

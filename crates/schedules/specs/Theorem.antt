@@ -1,7 +1,6 @@
 -- Theorem 1 of the report: its bounds are bounds on response times. Over views, so that it does not matter how a table is held.
 use Prim.Native.Nat.{ℕ, _*_, _≤_, _<_}
 use mathlib.Core.Path.{_≡_}
-use mathlib.Core.Bool.{Bool, true}
 use Rattle.table.specs.declared.Level.{Level}
 use Rattle.table.specs.Limits.{maxResources}
 use Rattle.theory.specs.View.{View, level, resource}
@@ -34,23 +33,23 @@ finer k v =
     }
 
 -- a set of tasks whose demands have workloads of no task outside it: of all tasks, or of some that read no others
-abbrev pub Closed : View → (ℕ → Bool) → Type 0
-Closed v X = (i l : ℕ) → i < v .n → X i ≡ true → l < v .n → 1 ≤ unitsRead v (level i) (level l) → X l ≡ true
+abbrev pub Closed : View → (ℕ → Type 0) → Type 0
+Closed v X = (i l : ℕ) → i < v .n → X i → l < v .n → 1 ≤ unitsRead v (level i) (level l) → X l
 
 -- for each of its tasks a length up to the deadline that covers its own demand
-pub record Covers (demand : View → Level → ℕ → ℕ) (v : View) (X : ℕ → Bool) (R : ℕ → ℕ) : Type 0 where
-  pub low : (i : ℕ) → i < v .n → X i ≡ true → 1 ≤ R i
-  pub high : (i : ℕ) → i < v .n → X i ≡ true → R i ≤ v .D (level i)
-  pub covers : (i : ℕ) → i < v .n → X i ≡ true → demand v (level i) (R i) ≤ R i
+pub record Covers (demand : View → Level → ℕ → ℕ) (v : View) (X : ℕ → Type 0) (R : ℕ → ℕ) : Type 0 where
+  pub low : (i : ℕ) → i < v .n → X i → 1 ≤ R i
+  pub high : (i : ℕ) → i < v .n → X i → R i ≤ v .D (level i)
+  pub covers : (i : ℕ) → i < v .n → X i → demand v (level i) (R i) ≤ R i
 
 -- "an upper bound on the response time": of such tasks, in every such run, its instants being k-ths of the time unit, no job takes longer than the length of its task. It is said of any demand, of any sets of tasks and of any runs, to
 -- compare the right ones with wrong ones
-abbrev pub NoneLonger : (View → Level → ℕ → ℕ) → (View → (ℕ → Bool) → Type 0) → (View → JobSet → Schedule → ℕ → Type 0) → Type 0
+abbrev pub NoneLonger : (View → Level → ℕ → ℕ) → (View → (ℕ → Type 0) → Type 0) → (View → JobSet → Schedule → ℕ → Type 0) → Type 1
 NoneLonger demand Tasks Run =
-    (v : View) → Constrained v → (X : ℕ → Bool) → Tasks v X → (R : ℕ → ℕ) → Covers demand v X R → (k : ℕ) → 1 ≤ k
-    → (J : JobSet) → Generated (finer k v) J → (S : Schedule) (E : ℕ) → Run (finer k v) J S E → (i : ℕ) → i < v .n → X i ≡ true → RespondsWithin J S E i (k * R i)
+    (v : View) → Constrained v → (X : ℕ → Type 0) → Tasks v X → (R : ℕ → ℕ) → Covers demand v X R → (k : ℕ) → 1 ≤ k
+    → (J : JobSet) → Generated (finer k v) J → (S : Schedule) (E : ℕ) → Run (finer k v) J S E → (i : ℕ) → i < v .n → X i → RespondsWithin J S E i (k * R i)
 
-pub record Theorem1 : Type 0 where
+pub record Theorem1 : Type 1 where
   pub bounds : NoneLonger demandOf Closed UnderPIP
   -- where k is 1, the time unit is the table's
   pub whole : (v : View) → finer 1 v ≡ v
