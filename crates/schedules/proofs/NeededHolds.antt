@@ -12,7 +12,7 @@ use Rattle.theory.specs.Demand.{sharedCT, otherCT, allCT, highCT, DB, S, O, F, 
 use Rattle.schedules.specs.Jobs.{JobSet}
 use Rattle.theory.specs.Tables.{viewOf}
 use Rattle.schedules.specs.Schedule.{Schedule, onward, progress, priority, gotAfter, KernelFact, runs-pending, runs-locked, conserves, one-holder, holds-pending, holds-lock, keeps, goes-on, asked-on, not-past, UnderPIP}
-use Rattle.schedules.specs.Wrong.{UnderPIPBut, OtherKernel, spins, no-inheritance, aheadIn, UnderOther, WrongDemand, no-DB, no-S, no-O, no-F, no-L, once-a-lock, next-ceiling, one-less, wrongDemand}
+use Rattle.schedules.specs.Wrong.{UnderPIPBut, OtherKernel, spins, no-inheritance, aheadIn, UnderOther, WrongDemand, no-DB, no-S, no-O, no-F, no-L, once-a-lock, divided-S, next-short, next-ceiling, one-less, wrongDemand}
 use Rattle.schedules.specs.Theorem.{Closed, NoneLonger, finer}
 use Rattle.schedules.specs.Picture.{jobsOf, runOf}
 use Rattle.schedules.specs.Broken.{LateRun, brokenRun, otherRun, pictureOf, lengthsOf, systemOf}
@@ -81,6 +81,8 @@ terms-holds no-O = small no-O (smallRun no-O) refl refl
 terms-holds no-F = small no-F (smallRun no-F) refl refl
 terms-holds no-L = small no-L (smallRun no-L) refl refl
 terms-holds once-a-lock = small once-a-lock (smallRun once-a-lock) refl refl
+terms-holds divided-S = small divided-S (smallRun divided-S) refl refl
+terms-holds next-short = small next-short (smallRun next-short) refl refl
 terms-holds next-ceiling = small next-ceiling (smallRun next-ceiling) refl refl
 terms-holds one-less = small one-less (smallRun one-less) refl refl
 

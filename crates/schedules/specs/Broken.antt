@@ -14,7 +14,7 @@ use Rattle.schedules.specs.Schedule.{KernelFact, runs-pending, runs-lock
 use Rattle.schedules.specs.Wrong.{OtherKernel, spins, no-inheritance}
 use Rattle.schedules.specs.Picture.{Picture, jobsOf}
 
--- one task of such a run: when its job is released, a length that covers its demand, of the late task the least, the job's units and what it does
+-- one task of such a run: when its job is released, a length that covers its demand, the job's units and what it does
 pub record DrawnTask : Type 0 where
   pub first : ℕ
   pub covering : ℕ

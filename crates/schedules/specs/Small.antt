@@ -1,6 +1,6 @@
 -- Runs in which a job takes longer than a length that covers a demand that is too small. No fact about the kernel is broken in them.
 use mathlib.Core.List.{[], _∷_}
-use Rattle.schedules.specs.Wrong.{WrongDemand, no-DB, no-S, no-O, no-F, no-L, once-a-lock, next-ceiling, one-less}
+use Rattle.schedules.specs.Wrong.{WrongDemand, no-DB, no-S, no-O, no-F, no-L, once-a-lock, divided-S, next-short, next-ceiling, one-less}
 use Rattle.schedules.specs.Broken.{LateRun, drawn, onCpus}
 
 unfoldable pub smallRun : WrongDemand → LateRun
@@ -40,6 +40,18 @@ smallRun once-a-lock =
     (drawn 0 4 "1-1" "aRra"
     ∷ drawn 0 9 "1" "R..."
     ∷ drawn 0 9 "1" "...R"
+    ∷ [])
+-- the second waits for the first as long as that has the lock, and not half as long
+smallRun divided-S =
+    onCpus 2 1
+    (drawn 0 9 "11" "RR"
+    ∷ drawn 0 2 "1" "aa"
+    ∷ [])
+-- as without F
+smallRun next-short =
+    onCpus 1 1
+    (drawn 0 9 "-" "r"
+    ∷ drawn 0 1 "-" "."
     ∷ [])
 -- as without L
 smallRun next-ceiling =

@@ -6,7 +6,7 @@ use lib.Dec.{leb, ltb}
 use Rattle.basics.specs.Choice.{pick, only}
 use Rattle.basics.specs.Over.{countTo}
 use Rattle.table.specs.declared.Level.{Level}
-use Rattle.theory.specs.Work.{workload, quotient}
+use Rattle.theory.specs.Work.{workload, ceilDiv, quotient}
 use Rattle.theory.specs.View.{View, overResources, overBelow, largestBelow, uses, ceiling}
 use Rattle.theory.specs.Demand.{DB, S as STerm, O as OTerm, F as FTerm, L as LTerm, loadOf, demandOf}
 use Rattle.schedules.specs.Jobs.{JobSet}
@@ -43,6 +43,10 @@ pub data WrongDemand : Type 0 where
   no-L : WrongDemand
   -- in DB one wait for a lock, and not one for each request
   once-a-lock : WrongDemand
+  -- S divided by m, as O, F and L are
+  divided-S : WrongDemand
+  -- the short form for task m + 1 too
+  next-short : WrongDemand
   -- in L only the locks whose ceiling is above i by more than one
   next-ceiling : WrongDemand
   -- one less
@@ -60,6 +64,8 @@ wrongDemand no-F v i t = demandBy v i (DB v i) (STerm workload v i t) (OTerm wor
 wrongDemand no-L v i t = demandBy v i (DB v i) (STerm workload v i t) (OTerm workload v i t) (FTerm workload v i t) 0
 wrongDemand once-a-lock v i t =
     demandBy v i (overResources (λ k. only (uses v i k) (largestBelow v i (λ l. v .c l k)))) (STerm workload v i t) (OTerm workload v i t) (FTerm workload v i t) (LTerm workload v i t)
+wrongDemand divided-S v i t = demandBy v i (DB v i) (ceilDiv (STerm workload v i t) (v .cpus)) (OTerm workload v i t) (FTerm workload v i t) (LTerm workload v i t)
+wrongDemand next-short v i t = pick (leb (i .0) (suc (v .cpus))) (v .C i + DB v i + STerm workload v i t) (demandOf v i t)
 wrongDemand next-ceiling v i t =
     demandBy v i (DB v i) (STerm workload v i t) (OTerm workload v i t) (FTerm workload v i t)
     (overBelow v i (λ l. loadOf workload v t l (overResources (λ k. only (ltb (suc (ceiling v k .0)) (i .0)) (v .CT l k)))))
