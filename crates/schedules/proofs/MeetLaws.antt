@@ -1,4 +1,4 @@
--- Every job is finished within a length that covers its task's demand, written out as (11) has it: by induction over the instants.
+-- Every job is finished within a length that covers its task's demand: by induction over the instants.
 -- Assumes nothing.
 use Prim.Native.Nat.{ℕ, zero, suc, _+_, _≤_, _<_, zero-le}
 use mathlib.Core.Path.{_≡_, subst}
@@ -7,27 +7,24 @@ use native.Mathlib.Nat.{le-refl, not-suc-le-zero}
 use native.Mathlib.Decide.{decLt, ℕ-discrete}
 use native.Mathlib.Omega.{arith}
 use borrow.Author.Tests.{eq-eqb, le-leb}
-use lib.Dec.{eqb, leb}
-use Rattle.basics.specs.Choice.{only, pick}
+use lib.Dec.{eqb}
+use Rattle.basics.specs.Choice.{only}
 use Rattle.basics.specs.Over.{countTo}
 use Rattle.basics.proofs.SumLaws.{sum-le}
 use Rattle.basics.proofs.CountLaws.{sum-ones}
-use Rattle.theory.specs.Work.{workload, quotient}
 use Rattle.theory.specs.View.{View, level}
-use Rattle.theory.specs.Demand.{DB, S as STerm, O as OTerm, F as FTerm, L as LTerm}
+use Rattle.theory.specs.Demand.{demandWith, demandOf}
 use Rattle.windows.proofs.ServedLaws.{hits, hits-all}
 use Rattle.schedules.specs.Jobs.{JobSet, Generated}
 use Rattle.schedules.specs.Schedule.{Schedule, progress, pending, Finished, RespondsWithin}
-use Rattle.schedules.specs.Theorem.{Constrained, Closed}
+use Rattle.schedules.specs.Theorem.{Constrained, Closed, Covers}
 use Rattle.schedules.proofs.FactLaws.{Obeys}
 use Rattle.schedules.proofs.ProgressLaws.{ran, unit-below, job-rises}
 use Rattle.schedules.proofs.TermLaws.{Met, S-most}
 use Rattle.schedules.proofs.KindLaws.{kinds, full-most}
 use Rattle.schedules.proofs.BlockLaws.{DB-most}
 
-module _ (v : View) (J : JobSet) (S : Schedule) (E : ℕ) (fit : Constrained v) (o : Generated v J) (p : Obeys v J S E) (X : ℕ → Type 0) (closed : Closed v X) (R : ℕ → ℕ)
-    (low : (i : ℕ) → i < v .n → X i → 1 ≤ R i) (high : (i : ℕ) → i < v .n → X i → R i ≤ v .D (level i)) (covers : (i : ℕ) → i < v .n → X i → v .C (level i) + DB v (level i) + STerm workload v (level i) (R i)
-    + pick (leb (suc i) (v .cpus)) 0 (quotient (OTerm workload v (level i) (R i)) (FTerm workload v (level i) (R i)) (LTerm workload v (level i) (R i)) (v .cpus)) ≤ R i) where
+module _ (v : View) (J : JobSet) (S : Schedule) (E : ℕ) (fit : Constrained v) (o : Generated v J) (p : Obeys v J S E) (X : ℕ → Type 0) (closed : Closed v X) (R : ℕ → ℕ) (c : Covers demandOf v X R) where
   -- no job of these tasks is late before the instant B
   abbrev NoneLate : ℕ → Type 0
   NoneLate B = (l s j : ℕ) → l < v .n → X l → s < B → J .release l j + R l ≤ s → Finished J S l j s
@@ -40,10 +37,10 @@ module _ (v : View) (J : JobSet) (S : Schedule) (E : ℕ) (fit : Constrained v) 
     -- the job before it is finished at its release
     from : (j : ℕ) → NoneLate (J .release i j + R i) → j ≤ progress J S (J .release i j) i .job
     from zero b = zero-le
-    from (suc q) b = b i (J .release i (suc q)) q l x (omega (arith, low i l x)) (omega (arith, o .apart i q l, high i l x, fit .deadline i l))
+    from (suc q) b = b i (J .release i (suc q)) q l x (omega (arith, c .low i l x)) (omega (arith, o .apart i q l, c .high i l x, fit .deadline i l))
 
     met : Met v J S E fit o p i (J .release i j + R i)
-    met h m u s q k e = none h s q m (closed i h l x m u) k (omega (arith, high h m (closed i h l x m u)))
+    met h m u s q k e = none h s q m (closed i h l x m u) k (omega (arith, c .high h m (closed i h l x m u)))
 
     -- if it were late, it would be the task's job all that time,
     module _ (late : Finished J S i j (J .release i j + R i) → ⊥) where
@@ -74,6 +71,7 @@ module _ (v : View) (J : JobSet) (S : Schedule) (E : ℕ) (fit : Constrained v) 
 
       -- so that the length would be less than the demand at it
       not-late : ⊥
+      unfolding demandWith
       not-late =
           omega (
             arith,
@@ -82,7 +80,7 @@ module _ (v : View) (J : JobSet) (S : Schedule) (E : ℕ) (fit : Constrained v) 
             DB-most v J S E o p i j (J .release i j) (R i) l end (λ s a b. at s a (omega arith)),
             S-most v J S E fit o p i (J .release i j) (R i) end met,
             full-most v J S E fit o p i (J .release i j) (R i) end l met,
-            covers i l x,
+            c .covers i l x,
           )
 
     finish : Dec (Finished J S i j (J .release i j + R i)) → Finished J S i j (J .release i j + R i)
