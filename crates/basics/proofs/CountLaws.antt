@@ -1,6 +1,6 @@
 -- How many of the indices below n pass a test; and that numbers from 1 to n, each once, are n.
 -- Assumes nothing.
-use Prim.Native.Nat.{ℕ, zero, suc, _+_, _<_}
+use Prim.Native.Nat.{ℕ, zero, suc, _+_, _≤_, _<_, zero-le}
 use mathlib.Core.Path.{_≡_, refl, sym}
 use mathlib.Core.Bool.{Bool, true, false, _&&_}
 use native.Mathlib.Nat.{le-refl}
@@ -71,3 +71,17 @@ count-number (suc n) x true = go (count-number n x true) (ℕ-discrete x (n + 1)
     go before (no e) (yes l) h = rw (before, ne-eqb x (n + 1) e, within-low 1 n x l, within-low 1 (suc n) x l)
     go before (no e) (no l) (yes h) = rw (before, ne-eqb x (n + 1) e, within-high 1 n x h, within-high 1 (suc n) x (omega arith))
     go before (no e) (no l) (no h) = rw (before, ne-eqb x (n + 1) e, within-in 1 n x (omega arith) (omega arith), within-in 1 (suc n) x (omega arith) (omega arith))
+
+-- no two indices pass
+pub count-alone : (n : ℕ) (q : ℕ → Bool) → ((h g : ℕ) → h < n → g < n → q h ≡ true → q g ≡ true → h ≡ g) → countTo n q ≤ 1
+unfolding sumTo
+count-alone zero q a = zero-le
+count-alone (suc n) q a = go (q n) refl (count-alone n q (λ h g l m. a h g (omega arith) (omega arith)))
+  where
+    clear : q n ≡ true → (j : ℕ) → j < n → (b : Bool) → q j ≡ b → b ≡ false
+    clear e j m true f = absurd (omega (arith, a j n (omega arith) (omega arith) f e))
+    clear e j m false f = refl
+
+    go : (b : Bool) → q n ≡ b → countTo n q ≤ 1 → countTo n q + only b 1 ≤ 1
+    go true e i = omega (arith, count-none n q (λ j m. clear e j m (q j) refl))
+    go false e i = omega arith

@@ -1,22 +1,21 @@
 -- The bounds that are printed are bounds on response times.
 -- Assumes nothing.
-use Prim.Native.Nat.{ℕ, _+_, _*_, _≤_, _<_}
+use Prim.Native.Nat.{ℕ, zero, suc, _+_, _*_, _≤_, _<_}
 use mathlib.Core.Path.{_≡_, refl, sym, subst, ap, _∙_}
+use mathlib.Core.Bool.{true}
 use mathlib.Core.List.{List}
-use mathlib.Core.Logic.{_⊎_, inl, inr}
 use native.Mathlib.Nat.{le-refl}
 use native.Mathlib.Omega.{arith}
-use lib.Dec.{lit<, lit≤}
+use lib.Dec.{ltb, lit<, lit≤}
+use borrow.Author.Tests.{ltb-true}
 use lib.ListN.{getD}
 use Rattle.basics.specs.Over.{sumTo}
 use Rattle.basics.specs.Text.{bytes}
-use Rattle.table.specs.declared.Pair.{Pair}
 use Rattle.table.specs.declared.Table.{Table}
 use Rattle.table.specs.declared.Checked.the-variants.{Fine}
-use Rattle.table.specs.Empty.{unusedPair, emptyTask, emptyTable}
+use Rattle.table.specs.Empty.{emptyTask, emptyTable}
 use Rattle.table.specs.Answers.{accepted}
 use Rattle.table.specs.Faults.{firstFault}
-use Rattle.table.specs.Accepted.{GoodPair}
 use Rattle.table.specs.Rules.{timesInRange, timesInOrder, timesFault, isUnused, usedInRange, pairInRange, totalsFit, pairFault, pairsFault, taskFault, tasksFault, tableFault}
 use Rattle.table.proofs.Acceptance.{fine-accepted}
 use Rattle.theory.specs.declared.Verdict.the-variants.{Meets}
@@ -51,9 +50,9 @@ use Rattle.promises.proofs.RoundsHold.{rounds-hold}
 use Rattle.promises.proofs.ThreeTasks.{some-allowed}
 use Rattle.promises.proofs.ReadsLaws.{fine-fitting, units-read}
 
-no-requests : (p : Pair) → (p ≡ unusedPair) ⊎ GoodPair p → p .requests ≡ 0 → p .total ≡ 0
-no-requests p (inl e) z = ap (λ (q : Pair). q .total) e
-no-requests p (inr g) z = absurd (omega (arith, g .requests-least))
+no-requests : (N total : ℕ) → (1 ≤ total → ltb 0 N ≡ true) → N ≡ 0 → total ≡ 0
+no-requests N zero u z = refl
+no-requests N (suc x) u z = absurd (omega (arith, ltb-true 0 N (u (omega arith))))
 
 fine-constrained : (t : Table) → tableFault t ≡ Fine → Constrained (viewOf t)
 unfolding allCT
@@ -65,7 +64,7 @@ fine-constrained t e =
       run = λ l h. a .task l h .times .run-deadline;
       deadline = λ l h. a .task l h .times .deadline-period;
       totals = λ l h. a .task l h .totals;
-      unused = λ l k h m z. no-requests _ (a .task l h .pair k m) z;
+      unused = λ l k h m z. no-requests _ _ (fine-fitting t e .used l k h m) z;
     }
 
 -- what `bound` answers with `meets` is the least length that covers its demand

@@ -80,7 +80,7 @@ kept a b r i h u n e =
 
 prints : (allowance : ℕ) (s : List ℕ) (t : Table) → 1 ≤ allowance → readListing s ≡ accepted t → (row : ℕ → Counted) × PrintsRows allowance s t row
 prints allowance s t h e =
-    (λ i. countedIn t allowance (level i), record { text = report-accepted allowance s t h e; answer = λ i l. bound-known t i allowance (passes-check s t e) l h })
+    (λ i. countedIn t allowance (level i), record { table = e; text = report-accepted allowance s t h e; answer = λ i l. bound-known t i allowance (passes-check s t e) l h })
 
 printed : (s s' : List ℕ) (a b : Table) → readListing s ≡ accepted a → readListing s' ≡ accepted b → NoEasier (viewOf a) (viewOf b) → KeptInPrint s s' a b
 unfolding prints

@@ -57,7 +57,7 @@ pub record Responds : Type 1 where
   pub others-meet : (allowance : ℕ) (s : List ℕ) (t : Table) (row : ℕ → Counted) (X : ℕ → Type 0) (micros : ℕ → ℕ) → PrintsRows allowance s t row
       → ReadNoOther t X → RowsMeet t row X micros → NoJobLonger t X micros
   -- Where a row says `misses` or `open`, nothing is promised of that task, nor of those that read it, directly or in turn:
-  -- that a row itself says `meets` is not enough
+  -- that a row itself says `meets` is not enough (`backlog-below.txt` and `backlog-above.txt` of the examples show it too)
   pub not-alone : ((allowance : ℕ) (s : List ℕ) (t : Table) (row : ℕ → Counted) (i u : ℕ) → PrintsRows allowance s t row → i < t .n → row i .verdict ≡ Meets u → NoJobLonger t (λ l. l ≡ i) (λ l. u)) → ⊥
   -- the theorem itself, over views, and that none of the facts about a kernel can be left out of it
   pub theorem1 : Theorem1

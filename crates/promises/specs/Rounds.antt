@@ -40,6 +40,7 @@ rowsText n row = pageText n (λ i. rowText (suc i) (row i .verdict) (row i .roun
 
 -- of a listing, whose table is t, these rows are printed, and they are what `bound` answers
 pub record PrintsRows (allowance : ℕ) (s : List ℕ) (t : Table) (row : ℕ → Counted) : Type 0 where
+  pub table : readListing s ≡ accepted t
   pub text : reportText allowance s ≡ rowsText (t .n) row
   pub answer : (i : ℕ) → i < t .n → boundOf t (level i) allowance ≡ Known (row i)
 

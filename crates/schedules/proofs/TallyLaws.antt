@@ -11,21 +11,7 @@ use Rattle.basics.specs.Choice.{only}
 use Rattle.basics.specs.Over.{sumTo, countTo}
 use Rattle.basics.proofs.ChoiceLaws.{and-true, only-le}
 use Rattle.basics.proofs.SumLaws.{sum-le, sum-part, sum-bound, sum-add}
-use Rattle.basics.proofs.CountLaws.{sum-swap, count-none}
-
--- no two indices pass
-count-alone : (n : ℕ) (q : ℕ → Bool) → ((h g : ℕ) → h < n → g < n → q h ≡ true → q g ≡ true → h ≡ g) → countTo n q ≤ 1
-unfolding sumTo
-count-alone zero q a = zero-le
-count-alone (suc n) q a = go (q n) refl (count-alone n q (λ h g l m. a h g (omega arith) (omega arith)))
-  where
-    clear : q n ≡ true → (j : ℕ) → j < n → (b : Bool) → q j ≡ b → b ≡ false
-    clear e j m true f = absurd (omega (arith, a j n (omega arith) (omega arith) f e))
-    clear e j m false f = refl
-
-    go : (b : Bool) → q n ≡ b → countTo n q ≤ 1 → countTo n q + only b 1 ≤ 1
-    go true e i = omega (arith, count-none n q (λ j m. clear e j m (q j) refl))
-    go false e i = omega arith
+use Rattle.basics.proofs.CountLaws.{sum-swap, count-alone}
 
 -- pigeonhole: the indices that pass have values below i, no two the same
 pub count-into : (n i : ℕ) (q : ℕ → Bool) (f : ℕ → ℕ) → ((h : ℕ) → h < n → q h ≡ true → f h < i)

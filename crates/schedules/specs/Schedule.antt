@@ -84,7 +84,8 @@ pub data KernelFact : Type 0 where
   asked-on : KernelFact
   not-past : KernelFact
 
--- at the instant s; where r comes in, it is the instant before
+-- At the instant s; where r comes in, it is the instant before. `Broken` has for each a run in which it alone is broken and a bound is passed, and the tests have kernels: with queues in the order of arrival they break `not-past`, without
+-- inheritance, with jobs that spin while they wait, and by section II to the letter `conserves`
 unfoldable pub FactAt : View → JobSet → Schedule → ℕ → KernelFact → Type 0
 -- only a job that is there runs,
 FactAt v J S s runs-pending = (l : ℕ) → l < v .n → S .runs s l ≡ true → pending J S s l ≡ true
@@ -102,9 +103,9 @@ FactAt v J S s holds-lock = (l : ℕ) → l < v .n → S .holds s l ≡ true →
 FactAt v J S s keeps = (r l : ℕ) → s ≡ suc r → l < v .n → S .holds r l ≡ true → S .runs r l ≡ false → S .holds s l ≡ true
 -- and from one unit of a request to the next
 FactAt v J S s goes-on = (r l : ℕ) → s ≡ suc r → l < v .n → S .runs r l ≡ true → 0 < needs J S s l → begins J S s l ≡ false → S .holds s l ≡ true
--- who has asked for a lock does not take that back
+-- The report does not say who gets a lock. Its (6), by which a request waits for one lower request at most, presumes the last two: who has asked for a lock does not take that back;
 FactAt v J S s asked-on = (r l : ℕ) → s ≡ suc r → l < v .n → S .asked r l ≡ true → S .runs r l ≡ false → S .asked s l ≡ true
--- a lock goes to nobody who is lower than one that had asked for it before and is still without it; of those that ask at one instant any may get it
+-- and a lock goes to nobody who is lower than one that had asked for it before and is still without it. Of those that ask at one instant any may get it
 FactAt v J S s not-past =
     (r l w : ℕ) → s ≡ suc r → l < v .n → w < v .n → gotAfter J S r l ≡ true → S .asked r w ≡ true → S .runs r w ≡ false → waitsFor J S s w l ≡ true → l < w
 

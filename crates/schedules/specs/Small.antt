@@ -3,6 +3,23 @@ use mathlib.Core.List.{[], _∷_}
 use Rattle.schedules.specs.Wrong.{WrongDemand, no-DB, no-S, no-O, no-F, no-L, once-a-lock, divided-S, next-short, next-ceiling, one-less}
 use Rattle.schedules.specs.Broken.{LateRun, drawn, onCpus}
 
+-- the first runs before the second
+abbrev higherRuns : LateRun
+higherRuns =
+    onCpus 1 1
+    (drawn 0 9 "-" "r"
+    ∷ drawn 0 1 "-" "."
+    ∷ [])
+
+-- the third runs at the priority of the first, and then the first, before the second
+abbrev lowerRaised : LateRun
+lowerRaised =
+    onCpus 1 1
+    (drawn 0 9 "1" "aR"
+    ∷ drawn 0 2 "-" ".."
+    ∷ drawn 0 9 "1" "R."
+    ∷ [])
+
 unfoldable pub smallRun : WrongDemand → LateRun
 -- the first waits for the second
 smallRun no-DB =
@@ -16,24 +33,14 @@ smallRun no-S =
     (drawn 0 9 "1" "R"
     ∷ drawn 0 1 "1" "a"
     ∷ [])
--- the first runs, with a lock that the second does not use, or without
+-- the first runs before the second, with a lock that the second does not use
 smallRun no-O =
     onCpus 1 1
     (drawn 0 9 "1" "R"
     ∷ drawn 0 1 "-" "."
     ∷ [])
-smallRun no-F =
-    onCpus 1 1
-    (drawn 0 9 "-" "r"
-    ∷ drawn 0 1 "-" "."
-    ∷ [])
--- the third runs at the priority of the first, and then the first, before the second
-smallRun no-L =
-    onCpus 1 1
-    (drawn 0 9 "1" "aR"
-    ∷ drawn 0 2 "-" ".."
-    ∷ drawn 0 9 "1" "R."
-    ∷ [])
+smallRun no-F = higherRuns
+smallRun no-L = lowerRaised
 -- the first waits for the second at its first request, and for the third at its second
 smallRun once-a-lock =
     onCpus 1 0
@@ -47,18 +54,7 @@ smallRun divided-S =
     (drawn 0 9 "11" "RR"
     ∷ drawn 0 2 "1" "aa"
     ∷ [])
--- as without F
-smallRun next-short =
-    onCpus 1 1
-    (drawn 0 9 "-" "r"
-    ∷ drawn 0 1 "-" "."
-    ∷ [])
--- as without L
-smallRun next-ceiling =
-    onCpus 1 1
-    (drawn 0 9 "1" "aR"
-    ∷ drawn 0 2 "-" ".."
-    ∷ drawn 0 9 "1" "R."
-    ∷ [])
+smallRun next-short = higherRuns
+smallRun next-ceiling = lowerRaised
 -- nobody is in the way
 smallRun one-less = onCpus 1 0 (drawn 0 1 "--" "r" ∷ [])

@@ -1,4 +1,4 @@
--- Theorem 1 of the report: its bounds are bounds on response times. Over views, so that it does not matter how a table is held.
+-- Theorem 1 of the report, with the demand as document 01 and request 3/12 have it: the bounds are bounds on response times. Over views, so that it does not matter how a table is held.
 use Prim.Native.Nat.{ℕ, _*_, _≤_, _<_}
 use mathlib.Core.Path.{_≡_}
 use Rattle.table.specs.declared.Level.{Level}

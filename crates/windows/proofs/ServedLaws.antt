@@ -4,13 +4,13 @@ use Prim.Native.Nat.{ℕ, zero, suc, _+_, _-_, _*_, _≤_, _<_, zero-le}
 use mathlib.Core.Path.{_≡_, refl, sym, subst}
 use mathlib.Core.Bool.{Bool, true, false}
 use native.Mathlib.Nat.{not-suc-le-zero}
-use native.Mathlib.Decide.{ℕ-discrete}
+use native.Mathlib.Decide.{decLt, ℕ-discrete}
 use native.Mathlib.Omega.{arith}
 use Rattle.basics.specs.Choice.{only}
 use Rattle.basics.specs.Over.{sumTo, countTo}
 use Rattle.basics.proofs.ChoiceLaws.{only-below}
 use Rattle.basics.proofs.SumLaws.{sum-bound}
-use Rattle.basics.proofs.CountLaws.{sum-swap, count-none}
+use Rattle.basics.proofs.CountLaws.{sum-swap, count-alone}
 use Rattle.theory.specs.Work.{jobs, uncapped, workload}
 use Rattle.windows.specs.Sporadic.{Sporadic, served, InWindows}
 use Rattle.windows.proofs.PeriodLaws.{Portions, portions-sum}
@@ -62,17 +62,12 @@ later T r a (suc n) j h = go (ℕ-discrete j n) (λ l. later T r a n j l)
 
 module _ (T D x E : ℕ) (r : ℕ → ℕ) (ticks : ℕ → ℕ → Bool) (c : Sporadic T D x E r ticks) where
   alone : (s : ℕ) → s < E → D ≤ T → (K : ℕ) → countTo K (ticks s) ≤ 1
-  unfolding sumTo
-  alone s l h zero = zero-le
-  alone s l h (suc K) = go (ticks s K) refl (alone s l h K)
+  alone s l h K = count-alone K (ticks s) (λ i j m n e f. same i j e f (decLt i j) (decLt j i))
     where
-      before : ticks s K ≡ true → (j : ℕ) → j < K → (b : Bool) → ticks s j ≡ b → b ≡ false
-      before e j m true f = absurd (omega (arith, c .released s K l e, c .in-time s j l f, later T r (c .apart) K j m))
-      before e j m false f = refl
-
-      go : (b : Bool) → ticks s K ≡ b → countTo K (ticks s) ≤ 1 → countTo K (ticks s) + only b 1 ≤ 1
-      go true e i = omega (arith, count-none K (ticks s) (λ j m. before e j m (ticks s j) refl))
-      go false e i = omega arith
+      same : (i j : ℕ) → ticks s i ≡ true → ticks s j ≡ true → Dec (i < j) → Dec (j < i) → i ≡ j
+      same i j e f (yes d) x = absurd (omega (arith, c .released s j l f, c .in-time s i l e, later T r (c .apart) j i d))
+      same i j e f (no d) (yes x) = absurd (omega (arith, c .released s i l e, c .in-time s j l f, later T r (c .apart) i j x))
+      same i j e f (no d) (no x) = omega arith
 
 -- ---- the workload
 
