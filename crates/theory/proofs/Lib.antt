@@ -1,6 +1,6 @@
 -- The laws of the analysis.
 --   CasesHold     the computed cases
---   WorkLaws      uncapped-rises; workload-rises, workload-grows, workload-window, workload-less, workload-none; ceilDiv-rises
+--   WorkLaws      jobs-rise, uncapped-rises; workload-rises, workload-grows, workload-window, workload-less, workload-none; ceilDiv-rises, ceilDiv-whole
 --   LeastLaws     Rises, From, from-start, from-step, past; least-unique, least-none, keeps-bound
 --   RoundLaws     round-repeats, round-passes, round-goes-on; no-end, counts-once, counts-more, counts-unique
 --   AllowanceLaws open-rounds, settled-rounds, going-open, open-above, open-count, rounds-most, stays

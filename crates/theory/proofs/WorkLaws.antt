@@ -2,7 +2,7 @@
 -- Assumes nothing.
 use Prim.Native.Nat.{ℕ, zero, suc, _+_, _-_, _*_, _/_, _≤_, _<_, min, zero-le}
 use mathlib.Core.Path.{_≡_, refl, subst₂}
-use native.Mathlib.Nat.{le-refl, mul-le-mul-right, mul-le-mul-left, div-mul-le-self, lt-div-mul-add, not-suc-le-zero}
+use native.Mathlib.Nat.{le-refl, mul-le-mul-right, mul-le-mul-left, div-mul-le-self, lt-div-mul-add, add-mul-div-right, not-suc-le-zero}
 use native.Mathlib.Decide.{decLt, ℕ-discrete}
 use native.Mathlib.Omega.{arith}
 use Rattle.theory.specs.Work.{jobs, uncapped, workload, ceilDiv}
@@ -21,7 +21,7 @@ le-quot q q' T T' a a' l l' hT ha (yes m) = absurd (omega (arith, mul-le-mul-rig
 le-quot q q' T T' a a' l l' hT ha (no m) = omega arith
 
 -- never less for a longer a and a shorter period
-jobs-rise : {T T' : ℕ} (x : ℕ) {a a' : ℕ} → 0 < T' → T' ≤ T → a ≤ a' → jobs T x a ≤ jobs T' x a'
+pub jobs-rise : {T T' : ℕ} (x : ℕ) {a a' : ℕ} → 0 < T' → T' ≤ T → a ≤ a' → jobs T x a ≤ jobs T' x a'
 unfolding jobs
 jobs-rise {T} {T'} x {a} {a'} pos hT ha =
     let q = a / T in
@@ -113,3 +113,10 @@ pub ceilDiv-rises : (m m' n n' : ℕ) → 0 < m' → m' ≤ m → n ≤ n' → c
 unfolding ceilDiv
 ceilDiv-rises m m' n n' pos hm hn =
     le-ceil _ _ m m' n n' (div-mul-le-self (n + (m - 1)) m) (lt-div-mul-add pos) pos hm hn (decLt _ _)
+
+-- whole ones may be added before the quotient is taken, or after
+pub ceilDiv-whole : (m x n : ℕ) → 0 < m → ceilDiv (n + x * m) m ≡ ceilDiv n m + x
+unfolding ceilDiv
+ceilDiv-whole m x n pos =
+    let e : n + x * m + (m - 1) ≡ n + (m - 1) + x * m = omega arith in
+    rw e (add-mul-div-right (n + (m - 1)) x pos)
