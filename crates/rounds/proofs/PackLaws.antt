@@ -17,11 +17,7 @@ use Rattle.rounds.specs.declared.Part.{Part}
 use Rattle.rounds.specs.declared.Shares.{Shares}
 use Rattle.rounds.specs.Shares.{shareAt, wholeOf, partOf}
 use Rattle.rounds.specs.Outcome.{SoundShare}
-use Rattle.rounds.specs.Parts.{partAt, partLoad, GoodPart, PartIs}
-
--- the workloads over t of the first w of xs
-abbrev pub loads : List Part → ℕ → ℕ → ℕ
-loads xs w t = sumTo w (λ j. partLoad (partAt xs j) t)
+use Rattle.rounds.specs.Parts.{partAt, partLoad, loads, GoodPart, PartIs}
 
 -- what the first k shares come to over t: whole, and divided
 abbrev pub wholes : Shares → ℕ → ℕ → ℕ

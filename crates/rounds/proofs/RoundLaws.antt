@@ -20,8 +20,7 @@ use Rattle.rounds.specs.declared.Divided.{Divided}
 use Rattle.rounds.specs.declared.Shares.{Shares}
 use Rattle.rounds.specs.Shares.{shareAt, wholeOf, partOf, sharesDemand}
 use Rattle.rounds.specs.Outcome.{SoundShares}
-use Rattle.rounds.specs.Parts.{partAt, partLoad, UncappedIs, WholesAre, DividedAre}
-use Rattle.rounds.proofs.PackLaws.{loads}
+use Rattle.rounds.specs.Parts.{partAt, partLoad, loads, UncappedIs, WholesAre, DividedAre}
 
 demand-base : (s : Shares) (t : ℕ) → s .base ≤ sharesDemand s t
 unfolding sharesDemand

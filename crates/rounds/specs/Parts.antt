@@ -52,14 +52,23 @@ pub record UncappedIs (e : Part) (t r : ℕ) : Type 0 where
   pub is : r ≡ partUncapped e t
   pub fits : r ≤ maxSpan
 
+-- ---- the rows
+
+-- the workloads over t of the first n parts
+abbrev pub loads : List Part → ℕ → ℕ → ℕ
+loads xs n t = sumTo n (λ j. partLoad (partAt xs j) t)
+
+-- in front of a row there are n good parts, and no more than it has room for
+pub record GoodRow (room : ℕ) (xs : List Part) (n : ℕ) : Type 0 where
+  pub few : n ≤ room
+  pub good : (j : ℕ) → j < n → GoodPart (partAt xs j)
+
 -- the parts of the shares that count whole, those of no units left out, come to what the shares come to
 pub record WholesAre (s : Shares) (r : Wholes) : Type 0 where
-  pub few : r .n ≤ maxTasks
-  pub good : (j : ℕ) → j < r .n → GoodPart (partAt (r .of) j)
-  pub are : (t : ℕ) → 1 ≤ t → sumTo (r .n) (λ j. partLoad (partAt (r .of) j) t) ≡ sumTo (s .n) (λ l. wholeOf (shareAt s l) t)
+  pub row : GoodRow maxTasks (r .of) (r .n)
+  pub are : (t : ℕ) → 1 ≤ t → loads (r .of) (r .n) t ≡ sumTo (s .n) (λ l. wholeOf (shareAt s l) t)
 
 -- and so do those that are divided
 pub record DividedAre (s : Shares) (r : Divided) : Type 0 where
-  pub few : r .n ≤ 2 * maxTasks
-  pub good : (j : ℕ) → j < r .n → GoodPart (partAt (r .of) j)
-  pub are : (t : ℕ) → 1 ≤ t → sumTo (r .n) (λ j. partLoad (partAt (r .of) j) t) ≡ sumTo (s .n) (λ l. partOf (shareAt s l) t)
+  pub row : GoodRow (2 * maxTasks) (r .of) (r .n)
+  pub are : (t : ℕ) → 1 ≤ t → loads (r .of) (r .n) t ≡ sumTo (s .n) (λ l. partOf (shareAt s l) t)

@@ -12,6 +12,8 @@ use table::Table;
 use theory::Counted;
 use theory::Verdict;
 
+mod strides;
+
 // What one task's analysis reads of another: the units of it that count whole, and the two counts that are divided by m.
 pub struct Share {
     pub period: u32,
@@ -193,7 +195,8 @@ fn found(verdict: Verdict, rounds: u32) -> Counted
     Counted { verdict, rounds }
 }
 
-// The lengths from C on, each the demand at the one before, until one repeats or passes D, or the rounds that are allowed are used up.
+// The lengths from C on, each the demand at the one before, until one repeats or passes D, or the rounds that are allowed are used up. A round that is worked out gives
+// every verdict; a stride moves on past rounds that give none, and counts them (`rounds-alike` of StrideLaws).
 fn iterate(s: Shares, deadline: u32, allowance: u32) -> Counted
     requires { ⌜ SoundShares s deadline × (1 ≤ allowance) ⌝ }
     ensures { λ r. ⌜ r ≡ countedFrom (sharesDemand s) deadline allowance (s .start) ⌝ }
@@ -205,6 +208,8 @@ fn iterate(s: Shares, deadline: u32, allowance: u32) -> Counted
     let last = wide(deadline);
     let mut t = s.start;
     let mut used: u32 = 0;
+    let mut plain = strides::BEFORE_FIRST; // rounds before the next look for a stride
+    let mut pause: u32 = 0;
     loop {
         let mut whole: u64 = 0;
         let mut i: usize = 0;
@@ -232,8 +237,19 @@ fn iterate(s: Shares, deadline: u32, allowance: u32) -> Counted
         if spent == allowance {
             return found(Verdict::Open, spent);
         }
-        t = f as u32;
-        used = spent;
+        if 0 < plain {
+            t = f as u32;
+            used = spent;
+            plain = plain - 1;
+        } else {
+            let climb = f as u32 - t;
+            let even = strides::even_reach(w, d, s.cpus, t);
+            let k = strides::stride(even, climb, deadline - t, allowance - spent);
+            t = t + k * climb;
+            used = used + k;
+            pause = strides::pause_after(k, pause);
+            plain = pause;
+        }
     }
 }
 

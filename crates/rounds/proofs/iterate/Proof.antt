@@ -5,26 +5,27 @@ use native.Mathlib.Nat.{div-le-self}
 use native.Mathlib.Omega.{arith}
 use borrow.Author.Needs.{needs}
 use Rattle.rounds.proofs.RoundLaws.{Summed, summed-none, summed-more, roundOf, round-is, Sought, sought-start, Round, round-meets, round-misses, round-open, round-more}
+use Rattle.rounds.proofs.StrideLaws.{stride-more}
 use Rattle.rounds.proofs.iterate.Statement.{statement}
 use Rattle.rounds.proofs.iterate.Tie as tie
 
 abbrev Inv-loop2 : tie.InvT-loop2
-Inv-loop2 s deadline allowance w d n m last t used whole₀ i₀ whole i = (i ≤ n) × Summed (w .of) t i whole
+Inv-loop2 s deadline allowance w d n m last t used plain pause whole₀ i₀ whole i = (i ≤ n) × Summed (w .of) t i whole
 
 abbrev μ-loop2 : tie.MeasureT-loop2
-μ-loop2 s deadline allowance w d n m last t used whole₀ i₀ whole i = n - i
+μ-loop2 s deadline allowance w d n m last t used plain pause whole₀ i₀ whole i = n - i
 
 abbrev Inv-loop3 : tie.InvT-loop3
-Inv-loop3 s deadline allowance w d n m last t used whole i part₀ j₀ part j = (j ≤ m) × Summed (d .of) t j part
+Inv-loop3 s deadline allowance w d n m last t used plain pause whole i part₀ j₀ part j = (j ≤ m) × Summed (d .of) t j part
 
 abbrev μ-loop3 : tie.MeasureT-loop3
-μ-loop3 s deadline allowance w d n m last t used whole i part₀ j₀ part j = m - j
+μ-loop3 s deadline allowance w d n m last t used plain pause whole i part₀ j₀ part j = m - j
 
 abbrev Inv-loop : tie.InvT-loop
-Inv-loop s deadline allowance w d n m last t₀ used₀ t used = Sought s deadline allowance t used
+Inv-loop s deadline allowance w d n m last t₀ used₀ plain₀ pause₀ t used plain pause = Sought s deadline allowance t used
 
 abbrev μ-loop : tie.MeasureT-loop
-μ-loop s deadline allowance w d n m last t₀ used₀ t used = allowance - used
+μ-loop s deadline allowance w d n m last t₀ used₀ plain₀ pause₀ t used plain pause = allowance - used
 
 loop-holds : tie.Need-loop-holds Inv-loop2 μ-loop2 Inv-loop3 μ-loop3 Inv-loop μ-loop
 loop-holds c =
@@ -37,7 +38,7 @@ loop2-holds c = (search needs, summed-none)
 uncapped-requires : tie.Need-uncapped-requires Inv-loop2 μ-loop2 Inv-loop3 μ-loop3 Inv-loop μ-loop
 uncapped-requires c κs =
     let l = c .before .before in
-    (l .before .before .before .before .wholes-of .ensures .good (l .loop2 .i) (c .before .loop2-test .taken), omega arith)
+    (l .before .before .before .before .wholes-of .ensures .row .good (l .loop2 .i) (c .before .loop2-test .taken), omega arith)
 
 loop2-again : tie.Need-loop2-again Inv-loop2 μ-loop2 Inv-loop3 μ-loop3 Inv-loop μ-loop
 loop2-again c =
@@ -50,7 +51,7 @@ loop3-holds c = (search needs, summed-none)
 uncapped-requires-2 : tie.Need-uncapped-requires-2 Inv-loop2 μ-loop2 Inv-loop3 μ-loop3 Inv-loop μ-loop
 uncapped-requires-2 c κs =
     let l = c .before .before in
-    (l .before .before .before .before .before .divided-of .ensures .good (l .loop3 .j) (c .before .loop3-test .taken), omega arith)
+    (l .before .before .before .before .before .divided-of .ensures .row .good (l .loop3 .j) (c .before .loop3-test .taken), omega arith)
 
 loop3-again : tie.Need-loop3-again Inv-loop2 μ-loop2 Inv-loop3 μ-loop3 Inv-loop μ-loop
 loop3-again c =
@@ -89,7 +90,23 @@ returns-3 : tie.Need-returns-3 Inv-loop2 μ-loop2 Inv-loop3 μ-loop3 Inv-loop μ
 returns-3 c = c .found3 .ensures ∙ round-open (round (c .before .before .before .before .before .before .before .before)) (omega arith) (omega arith) (omega arith)
 
 loop-again : tie.Need-loop-again Inv-loop2 μ-loop2 Inv-loop3 μ-loop3 Inv-loop μ-loop
-loop-again c = round-more (round (c .before .before .before .before .before .before .before)) (omega arith) (omega arith) (omega arith)
+loop-again c = round-more (round (c .before .before .before .before .before .before .before .before)) (omega arith) (omega arith) (omega arith)
+
+even-reach-requires : tie.Need-even-reach-requires Inv-loop2 μ-loop2 Inv-loop3 μ-loop3 Inv-loop μ-loop
+even-reach-requires c κs =
+    let l = c .before .before .before .before .before .before .before .before in
+    let d = l .before .before .before .before .before .before in
+    let o = round l in
+    (d .before .wholes-of .ensures .row, d .divided-of .ensures .row, search needs, search needs, omega (arith, o .sought .high, o .sound .head .deadline-most))
+
+loop-again-2 : tie.Need-loop-again-2 Inv-loop2 μ-loop2 Inv-loop3 μ-loop3 Inv-loop μ-loop
+loop-again-2 c =
+    let e = c .before .before .before in
+    let l = e .before .before .before .before .before .before .before .before in
+    let d = l .before .before .before .before .before .before in
+    let o = round l in
+    stride-more o (d .before .wholes-of .ensures) (d .divided-of .ensures) (c .before .before .even-reach .ensures) (c .before .stride .ensures)
+    (omega arith) (omega arith) (omega (arith, o .sought .high)) (omega (arith, o .sought .left))
 
 pub iterate-spec : {M : Type 1} → statement M
 iterate-spec =
@@ -136,4 +153,17 @@ iterate-spec =
     returns-3
     (λ c. search needs)
     (λ c. search needs)
-    loop-again)
+    (λ c. search needs)
+    loop-again
+    (λ c. search needs)
+    (λ c. search needs)
+    even-reach-requires
+    (λ c. search needs)
+    (λ c. search needs)
+    (λ c κs. search needs)
+    (λ c. search needs)
+    (λ c. search needs)
+    (λ c. search needs)
+    (λ c κs. search needs)
+    (λ c. search needs)
+    loop-again-2)

@@ -39,7 +39,7 @@ returns c =
     let l = c .before .loop in
     let s = c .before .before .before .args .t1 in
     let e : l .k ≡ s .n = omega arith in
-    record { few = omega arith; good = l .inv .2 .good; are = λ t h. l .inv .2 .sum t h ∙ ap (λ (n : ℕ). wholes s n t) e }
+    record { row = record { few = omega arith; good = l .inv .2 .good }; are = λ t h. l .inv .2 .sum t h ∙ ap (λ (n : ℕ). wholes s n t) e }
 
 pub wholes-of-spec : {M : Type 1} → statement M
 wholes-of-spec =
