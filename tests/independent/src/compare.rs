@@ -10,11 +10,12 @@ use crate::programs::Said;
 use crate::random::Random;
 use crate::report::{self, BENCH, REPORT};
 use crate::table::Table;
-use crate::{cases, generate, listing};
+use crate::{cases, generate, listing, strides};
 
 const VALID: u64 = 1_500;
 const DAMAGED: u64 = 2_500;
 const LONG_AMONG_SHORT: u64 = 600;
+const BROKEN_OFF: u64 = 400;
 
 /// What came up: how many listings or tables were compared, and each answer, of which a table gets several.
 pub struct Tally {
@@ -176,6 +177,11 @@ pub fn listings() -> Vec<Vec<u8>> {
         let table = generate::long_among_short(&mut r);
         all.push(spelled(&mut r, table));
     }
+    let mut r = Random::new(12);
+    for _ in 0..BROKEN_OFF {
+        let table = generate::broken_off(&mut r);
+        all.push(spelled(&mut r, table));
+    }
     all
 }
 
@@ -214,18 +220,19 @@ fn capped(tally: &mut Tally, table: &Table) -> bool {
     true
 }
 
-/// What came up in the reports: of `report`, of these where a time has more decimals or the cap counts, and of `bench`.
+/// What came up in the reports: of `report`, of these where a time has more decimals, the cap counts or rounds climb alike, and of `bench`.
 struct Reports {
     all: Tally,
     with_decimals: Tally,
     by_cap: Tally,
+    broken_off: Tally,
     by_bench: Tally,
     nearly_open: Tally,
 }
 
 impl Reports {
     fn new() -> Reports {
-        Reports { all: Tally::new(), with_decimals: Tally::new(), by_cap: Tally::new(), by_bench: Tally::new(), nearly_open: Tally::new() }
+        Reports { all: Tally::new(), with_decimals: Tally::new(), by_cap: Tally::new(), broken_off: Tally::new(), by_bench: Tally::new(), nearly_open: Tally::new() }
     }
 
     fn count(&mut self, listing: &[u8], reported: &str, benched: &str) {
@@ -244,6 +251,7 @@ impl Reports {
         self.all.print(&format!("reports: {} compared", self.all.compared));
         self.with_decimals.print(&format!("of these, {} have a time of four to six decimals", self.with_decimals.compared));
         self.by_cap.print(&format!("the {} accepted, beside the verdicts by the uncapped workload", self.by_cap.compared));
+        self.broken_off.print("their tasks whose rounds climb alike, and what breaks these off");
         self.by_bench.print(&format!("reports of bench: {} compared", self.by_bench.compared));
         self.nearly_open.print("their tasks that take as many rounds as it allows, or one more");
     }
@@ -261,6 +269,7 @@ impl Reports {
         self.all.covers(&wanted(&every, &decided))
             && self.with_decimals.covers(&wanted(&every[1..8], &decided))
             && self.by_cap.covers(&["a bound is smaller", "a miss became a bound"].map(String::from))
+            && self.broken_off.covers(&[strides::CLIMB, strides::BOUND, strides::DEADLINE].map(String::from))
             && self.by_bench.covers(&wanted(&every, &[decided, open].concat()))
             && self.nearly_open.covers(&nearly.map(String::from))
     }
@@ -283,8 +292,13 @@ pub fn reports(report: &str, bench: &str) -> bool {
             return false;
         }
         tallies.count(&listing, &reported, &benched);
-        if listing::read(&listing).is_ok_and(|table| !capped(&mut tallies.by_cap, &table)) {
-            return false;
+        if let Ok(table) = listing::read(&listing) {
+            for i in 0..table.n as usize {
+                strides::broken_off(&table, i, REPORT).iter().for_each(|by| tallies.broken_off.count(by.to_string()));
+            }
+            if !capped(&mut tallies.by_cap, &table) {
+                return false;
+            }
         }
     }
     tallies.print();

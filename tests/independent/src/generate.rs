@@ -35,7 +35,63 @@ pub fn long_among_short(r: &mut Random) -> Table {
     table
 }
 
-/// Both kinds in turn, from a seed of their own.
+/// A table on which rounds climb alike, and are broken off. Above are tasks that hardly ever let go, about as many as there are processors, or half as
+/// many that each bring in two parts; among them are some of very short periods; and the lengths of those at the bottom climb step by step.
+pub fn broken_off(r: &mut Random) -> Table {
+    let m = *r.pick(&[1, 1, 2, 2, 3, 4, 7, 19]);
+    let longest = *r.pick(&[100, 700, 3_000, 12_000]);
+    let mut parts = if r.one_in(3) { r.within((m - 1).max(1), m + 1) } else { m };
+    let mut tasks = Vec::new();
+    while parts > 0 {
+        let two = parts > 1 && r.one_in(2);
+        tasks.push(never_idle(r, longest, two));
+        parts -= 1 + two as u64;
+    }
+    for _ in 0..r.within(0, 2) {
+        let at = r.within(0, tasks.len() as u64) as usize;
+        tasks.insert(at, of_short_period(r));
+    }
+    for _ in 0..r.within(1, 3) {
+        let d = r.within(longest / 3, longest);
+        let mut last = Task { t: longest, c: *r.pick(&[1, 1, 1, 2, 3]), d, ..Task::default() };
+        if r.one_in(2) {
+            last.locks[r.one_in(2) as usize] = Lock { n: 1, c: 1, ct: 1 };
+        }
+        tasks.push(last);
+    }
+    let mut table = Table::zero();
+    (table.m, table.n) = (m, tasks.len() as u64);
+    table.tasks[..tasks.len()].copy_from_slice(&tasks);
+    table
+}
+
+/// A task that lets go for a moment at most, and holds a lock for a part of its time by many short requests, if it is to bring in two parts.
+fn never_idle(r: &mut Random, longest: u64, two: bool) -> Task {
+    let t = if r.one_in(2) { longest } else { r.within(longest / 3, longest) };
+    let d = t - if r.one_in(2) { 0 } else { r.within(0, 2.min(t - 1)) };
+    let c = d - if r.one_in(2) { 0 } else { r.within(0, d / 20) };
+    let mut task = Task { t, c, d, ..Task::default() };
+    if two || r.one_in(4) {
+        let ct = if two { r.within(1, c - 1) } else { c };
+        task.locks[r.one_in(2) as usize] = Lock { n: COUNT, c: ct.div_ceil(COUNT), ct };
+    }
+    task
+}
+
+/// A task of a period of 1 to 100 microseconds, half the time with no time between two jobs.
+fn of_short_period(r: &mut Random) -> Task {
+    let t = *r.pick(&[1, 2, 3, 17, 100]);
+    let d = if r.one_in(2) { t } else { r.within(1, t) };
+    let c = if r.one_in(2) { d } else { r.within(1, d) };
+    let mut task = Task { t, c, d, ..Task::default() };
+    if r.one_in(2) {
+        let ct = r.within(1, c);
+        task.locks[r.one_in(2) as usize] = Lock { n: 1, c: ct, ct };
+    }
+    task
+}
+
+/// The first two kinds in turn, from a seed of their own.
 pub fn tables(seed: u64, how_many: u64) -> impl Iterator<Item = Table> {
     let mut r = Random::new(seed);
     (0..how_many).map(move |at| if at % 2 == 0 { table(&mut r) } else { long_among_short(&mut r) })

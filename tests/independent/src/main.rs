@@ -44,6 +44,7 @@ mod salvage;
 mod salvages;
 mod simulation;
 mod story;
+mod strides;
 mod table;
 
 use programs::{Both, Said};

@@ -11,10 +11,11 @@ use crate::programs::refused;
 use crate::random::Random;
 use crate::salvage::{salvage, Salvaged};
 use crate::table::{Lock, Refusal, Table};
-use crate::{card, cards, cases, edges, generate, listing, report, salvages};
+use crate::{card, cards, cases, edges, generate, listing, report, salvages, strides};
 
 const TABLES: u64 = 600;
 const LONG_AMONG_SHORT: u64 = 100;
+const BROKEN_OFF: u64 = 80;
 const ROWS: usize = 40;
 const OUTPUT: usize = 20_000;
 /// What a request has after its first two words: a table, a time, or a listing or a card of as many bytes at most.
@@ -231,6 +232,13 @@ impl Call {
         Call { allowance: Some(allowance), outcome: call.outcome + &handed.near(task, allowance), ..call }
     }
 
+    /// The same, counted by whether the allowance breaks off rounds that climb alike.
+    fn bound_among(handed: &Handed, task: u32, allowance: u32) -> Call {
+        let call = Call::bound(handed, task, allowance);
+        let among = strides::broken_off(&handed.table, task as usize - 1, allowance as u64).contains(strides::ALLOWANCE);
+        Call { outcome: if among { format!("bound: {}", strides::ALLOWANCE) } else { call.outcome }, ..call }
+    }
+
     fn analyse(handed: &Handed, room: u32, allowance: u32) -> Call {
         let call = Call::new("analyse", 3, room, handed.row(room, allowance).into_bytes());
         Call { allowance: Some(allowance), outcome: call.outcome + handed.mixed(room, allowance), ..call }
@@ -302,11 +310,30 @@ fn some_of_each() -> impl Iterator<Item = (Table, Vec<Call>)> {
     tables.into_iter().map(asked)
 }
 
+/// Tasks of many rounds, with allowances about the first that may be passed over, and among those after it.
+fn among_rounds() -> impl Iterator<Item = (Table, Vec<Call>)> {
+    let mut r = Random::new(13);
+    let tables: Vec<Table> = (0..BROKEN_OFF).map(|_| generate::broken_off(&mut r)).collect();
+    let asked = move |table: Table| {
+        let handed = Handed::new(table);
+        let mut calls = Vec::new();
+        for task in 1..=handed.table.n as u32 {
+            let rounds = handed.task(task).map_or(0, |found| found.rounds);
+            if rounds > 17 {
+                let allowances = [17, 18, r.within(18, rounds), r.within(18, rounds), r.within(18, rounds), rounds - 1, rounds];
+                calls.extend(allowances.map(|allowance| Call::bound_among(&handed, task, allowance as u32)));
+            }
+        }
+        (handed.table, calls)
+    };
+    tables.into_iter().map(asked)
+}
+
 pub fn compare(program: &str) -> bool {
     let mut tally = Tally::new();
     // a few rounds, and more than two bytes can count
     let by_rounds = cases::rounds().into_iter().chain([cases::no_end(70_000)]).map(every_allowance);
-    for (table, calls) in some_of_each().chain(by_rounds) {
+    for (table, calls) in some_of_each().chain(by_rounds).chain(among_rounds()) {
         for call in calls {
             if !call.alike(program, &table) {
                 return false;
@@ -330,6 +357,7 @@ fn wanted() -> Vec<String> {
     all.extend(["check: fine", "write: wrote", "write: refused 11", "card write: wrote", "card write: refused 11"].map(String::from));
     all.extend(["meets", "misses", "open", "refused 16", "meets, just in time", "misses, just in time"].map(|answer| format!("bound: {answer}")));
     all.extend(["meets", "misses"].map(|verdict| format!("bound: open, and {verdict} a round later")));
+    all.push(format!("bound: {}", strides::ALLOWANCE));
     all.extend(["refused 16, and the row is short", "refused 16", "refused 11"].map(|answer| format!("analyse: {answer}")));
     all.extend(["", ", some open", ", all open"].map(|how| format!("analyse: fine{how}")));
     all
