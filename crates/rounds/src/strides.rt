@@ -119,10 +119,15 @@ pub(crate) fn stride(even: u32, climb: u32, room: u32, left: u32) -> u32
 // does without: so many rounds are worked out one by one before the first look.
 pub(crate) const BEFORE_FIRST: u32 = 16;
 
-// And so many after a look that found k rounds, where it was `pause` after the look before: none where that paid, else twice as many and one more, up to 127.
+// And so many after a look that found k rounds, where it was `pause` after the look before. Where that paid, none. Else more and more, but not the same number each time: a table
+// whose jobs keep in step with it would have every look fall just before one begins. From 4,000 on it starts again.
 pub(crate) fn pause_after(k: u32, pause: u32) -> u32 {
     if 3 < k {
         return 0;
     }
-    if pause < 64 { 2 * pause + 1 } else { pause }
+    if pause < 4_000 {
+        pause + pause / 8 + 8
+    } else {
+        0
+    }
 }
