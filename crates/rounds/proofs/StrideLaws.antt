@@ -1,4 +1,4 @@
--- How a workload goes on from a length, and the demand; and what a stride leaves of the rounds: `rounds-alike`, on which all of it rests.
+-- Strides: why they change nothing, `rounds-alike`; and how a workload, and the demand, go on from a length.
 -- Assumes nothing.
 use Prim.Native.Nat.{ℕ, zero, suc, _+_, _-_, _*_, _/_, _≤_, _<_, min}
 use mathlib.Core.Path.{_≡_, sym, ap, subst₂}
@@ -13,18 +13,18 @@ use Rattle.rounds.specs.declared.Part.{Part}
 use Rattle.rounds.specs.declared.Wholes.{Wholes}
 use Rattle.rounds.specs.declared.Divided.{Divided}
 use Rattle.rounds.specs.declared.Shares.{Shares}
-use Rattle.rounds.specs.declared.strides.Reach.{Reach}
+use Rattle.rounds.specs.declared.strides.Course.{Course}
 use Rattle.rounds.specs.Shares.{sharesDemand}
 use Rattle.rounds.specs.Outcome.{SoundShares}
 use Rattle.rounds.specs.Parts.{partAt, partUncapped, partLoad, loads, GoodPart, WholesAre, DividedAre}
-use Rattle.rounds.specs.Strides.{Straight, ReachIs, RestIs, StrideIs, rowsDemand}
+use Rattle.rounds.specs.Strides.{Straight, CourseIs, GoneIs, StrideIs, rowsDemand}
 use Rattle.rounds.proofs.RoundLaws.{Sought, Round, round-more}
 
 -- ---- the rounds
 
--- A round that is really worked out gives every verdict; a stride only moves on to a later length. r rounds from t on that climb alike: each has the demand that the next begins
--- at, so that none of them repeats its length; the last of those lengths does not pass D; and after them some round is left of those allowed. So none of the r gives a verdict,
--- and what is sought from t on is sought from t + r × climb on, after r rounds more.
+-- Every verdict is given by a round that is really worked out; a stride only moves on to a later length. Of r rounds from t on that climb alike, by 1 at least, each has the
+-- demand that the next begins at, so that none repeats its length; the length after them does not pass D; and one round is left after them of those allowed. So none of
+-- the r gives a verdict, and what is sought from t on is sought from t + r × climb on, after r rounds more.
 module _ {s : Shares} {D A t used climb : ℕ} (g : SoundShares s D) (p : 1 ≤ climb) where
   pub rounds-alike : (r : ℕ) → Sought s D A t used → ((k : ℕ) → k < r → sharesDemand s (t + k * climb) ≡ t + k * climb + climb)
       → t + r * climb ≤ D → used + r < A → Sought s D A (t + r * climb) (used + r)
@@ -41,9 +41,9 @@ unfolding sharesDemand
 rows-are p q t h = rw (p .are t h, q .are t h) (omega arith)
 
 -- a stride from t on, where the round at t climbs by `climb`
-pub stride-more : {s : Shares} {w : Wholes} {d : Divided} {D A t used f climb even room left r : ℕ} → Round s D A t used f → WholesAre s w → DividedAre s d
-    → Straight (rowsDemand w d (s .cpus)) t 1 even → StrideIs even climb room left r
-    → t + climb ≡ f → 1 ≤ climb → t + room ≤ D → used + left < A → Sought s D A (t + r * climb) (used + r)
+pub stride-more : {s : Shares} {w : Wholes} {d : Divided} {D A t used f climb reach headway left r : ℕ} → Round s D A t used f → WholesAre s w → DividedAre s d
+    → Straight (rowsDemand w d (s .cpus)) t 1 reach → StrideIs reach climb headway left r
+    → t + climb ≡ f → 1 ≤ climb → t + headway ≤ D → used + left < A → Sought s D A (t + r * climb) (used + r)
 stride-more {s} {t} {climb} {r} o p q straight st e c a b =
     rounds-alike (o .sound) c r (o .sought) alike (omega (arith, st .fits)) (omega (arith, st .few))
   where
@@ -55,7 +55,7 @@ stride-more {s} {t} {climb} {r} o p q straight st e c a b =
 
 -- ---- one workload
 
--- as far as the end of the period that a lies in the quotient need not be taken anew
+-- up to the end of the period in which a lies, that end included, the quotient of a serves
 jobs-on : (T x a g : ℕ) → 0 < T → x ≤ T → a - a / T * T + g ≤ T → Dec (a - a / T * T + g < T) → jobs T x (a + g) ≡ a / T * x + min x (a - a / T * T + g)
 unfolding jobs
 jobs-on T x a g pos k h (yes l) =
@@ -76,42 +76,42 @@ module _ (e : Part) (t : ℕ) (good : GoodPart e) where
   shift : (g : ℕ) → t + g + e .off ≡ t + e .off + g
   shift g = omega arith
 
-  load-on : {r : ℕ} → RestIs e t r → (g : ℕ) → r + g ≤ e .period → partUncapped e (t + g) ≡ (t + e .off) / e .period * e .units + min (e .units) (r + g)
+  load-on : {r : ℕ} → GoneIs e t r → (g : ℕ) → r + g ≤ e .period → partUncapped e (t + g) ≡ (t + e .off) / e .period * e .units + min (e .units) (r + g)
   load-on {r} p g h = rw (shift g, p .is) (jobs-on (e .period) (e .units) (t + e .off) g (good .period-least) (good .units-period) (omega (arith, p .is)) (decLt _ _))
 
-  load-here : {r : ℕ} → RestIs e t r → partUncapped e t ≡ (t + e .off) / e .period * e .units + min (e .units) r
+  load-here : {r : ℕ} → GoneIs e t r → partUncapped e t ≡ (t + e .off) / e .period * e .units + min (e .units) r
   unfolding jobs
   load-here p = rw (p .is)
 
-  pub goes-full : e .units ≡ e .period → (far : ℕ) → Straight (partLoad e) t 1 far
-  goes-full q far g h = rw q (omega (arith, jobs-full (e .period) (t + g + e .off) (good .period-least), jobs-full (e .period) (t + e .off) (good .period-least)))
+  pub goes-full : e .units ≡ e .period → (reach : ℕ) → Straight (partLoad e) t 1 reach
+  goes-full q reach g h = rw q (omega (arith, jobs-full (e .period) (t + g + e .off) (good .period-least), jobs-full (e .period) (t + e .off) (good .period-least)))
 
   -- a job runs
-  pub goes-running : {r far : ℕ} → RestIs e t r → r + far ≤ e .units → Straight (partLoad e) t 1 far
+  pub goes-running : {r reach : ℕ} → GoneIs e t r → r + reach ≤ e .units → Straight (partLoad e) t 1 reach
   goes-running p h g k = omega (arith, good .units-period, load-on p g (omega (arith, good .units-period)), load-here p)
 
-  -- more than t has run already
-  pub goes-capped : {far : ℕ} → t + far ≤ partUncapped e t → Straight (partLoad e) t 1 far
+  -- the cap holds it at t
+  pub goes-capped : {reach : ℕ} → t + reach ≤ partUncapped e t → Straight (partLoad e) t 1 reach
   goes-capped h g k =
       let l : t + e .off ≤ t + e .off + g = omega arith in
       rw (shift g) (omega (arith, jobs-rise {T = e .period} {T' = e .period} (e .units) (good .period-least) (le-refl (e .period)) l))
 
-  -- no job runs
-  pub goes-flat : {r far : ℕ} → RestIs e t r → partUncapped e t ≤ t → e .units ≤ r → r + far ≤ e .period → Straight (partLoad e) t 0 far
+  -- neither does a job run nor does the cap hold it
+  pub goes-flat : {r reach : ℕ} → GoneIs e t r → partUncapped e t ≤ t → e .units ≤ r → r + reach ≤ e .period → Straight (partLoad e) t 0 reach
   goes-flat p l m h g k = omega (arith, load-on p g (omega arith), load-here p)
 
 -- ---- the workloads of a row
 
-pub reach-none : (xs : List Part) {t far : ℕ} → ReachIs (loads xs 0) 0 t (record { rises = 0; far = far })
-reach-none xs {t} =
+pub course-none : (xs : List Part) {t reach : ℕ} → CourseIs (loads xs 0) 0 t (record { rises = 0; reach = reach })
+course-none xs {t} =
     record {
       few = omega arith;
       straight = λ g h. omega (arith, sum-none (λ j. partLoad (partAt xs j) (t + g)), sum-none (λ j. partLoad (partAt xs j) t));
     }
 
-pub reach-more : (xs : List Part) (n : ℕ) {t : ℕ} {r one r' : Reach} → ReachIs (loads xs n) n t r → ReachIs (partLoad (partAt xs n)) 1 t one
-    → r' .rises ≡ r .rises + one .rises → r' .far ≡ min (r .far) (one .far) → ReachIs (loads xs (n + 1)) (n + 1) t r'
-reach-more xs n {t} p q e f =
+pub course-more : (xs : List Part) (n : ℕ) {t : ℕ} {r one r' : Course} → CourseIs (loads xs n) n t r → CourseIs (partLoad (partAt xs n)) 1 t one
+    → r' .rises ≡ r .rises + one .rises → r' .reach ≡ min (r .reach) (one .reach) → CourseIs (loads xs (n + 1)) (n + 1) t r'
+course-more xs n {t} p q e f =
     record {
       few = omega (arith, p .few, q .few);
       straight = λ g h.
@@ -130,17 +130,17 @@ straight-none f t g h =
 
 -- Where one workload that counts whole rises, or m of those that are divided, the demand rises by one. Taken m times, those that count whole could be divided too; then what is
 -- divided by m rises by m with each microsecond.
-pub even : (w d : ℕ → ℕ) (t : ℕ) {m far n n' : ℕ} {x y : Reach} → 1 ≤ m → ReachIs w n t x → ReachIs d n' t y → x .rises * m + y .rises ≡ m
-    → far ≤ x .far → far ≤ y .far → Straight (λ s. w s + ceilDiv (d s) m) t 1 far
-even w d t {m} {x} {y} pos p q e a b g h =
+pub rises-evenly : (w d : ℕ → ℕ) (t : ℕ) {m reach n n' : ℕ} {x y : Course} → 1 ≤ m → CourseIs w n t x → CourseIs d n' t y → x .rises * m + y .rises ≡ m
+    → reach ≤ x .reach → reach ≤ y .reach → Straight (λ s. w s + ceilDiv (d s) m) t 1 reach
+rises-evenly w d t {m} {x} {y} pos p q e a b g h =
     let i : (x .rises * m + y .rises) * g ≡ m * g = rw e in
     let z : d (t + g) + w (t + g) * m ≡ d t + (w t + g) * m = rw (p .straight g (omega arith), q .straight g (omega arith)) (omega (arith, i)) in
     omega (arith, ceilDiv-whole m (w (t + g)) (d (t + g)) pos, ceilDiv-whole m (w t + g) (d t) pos, ap (λ (k : ℕ). ceilDiv k m) z)
 
 -- ---- how many rounds
 
-pub stride-is : {even climb room left far r : ℕ} → 1 ≤ left → climb ≤ room → far ≡ min even (room - climb)
-    → r ≡ min (far / climb) (left - 1) + 1 → StrideIs even climb room left r
+pub stride-is : {reach climb headway left far r : ℕ} → 1 ≤ left → climb ≤ headway → far ≡ min reach (headway - climb)
+    → r ≡ min (far / climb) (left - 1) + 1 → StrideIs reach climb headway left r
 stride-is {climb} {far} {r} a b c e =
     let z : far / climb * climb ≤ far = div-mul-le-self far climb in
     let s : (r - 1) * climb ≤ far / climb * climb = mul-le-mul-right climb (omega arith) in

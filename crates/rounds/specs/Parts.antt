@@ -58,9 +58,9 @@ pub record UncappedIs (e : Part) (t r : ℕ) : Type 0 where
 abbrev pub loads : List Part → ℕ → ℕ → ℕ
 loads xs n t = sumTo n (λ j. partLoad (partAt xs j) t)
 
--- in front of a row there are n good parts, and no more than it has room for
-pub record GoodRow (room : ℕ) (xs : List Part) (n : ℕ) : Type 0 where
-  pub few : n ≤ room
+-- in front of a row there are n good parts, and no more than it can hold
+pub record GoodRow (most : ℕ) (xs : List Part) (n : ℕ) : Type 0 where
+  pub few : n ≤ most
   pub good : (j : ℕ) → j < n → GoodPart (partAt xs j)
 
 -- the parts of the shares that count whole, those of no units left out, come to what the shares come to

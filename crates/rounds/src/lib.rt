@@ -195,8 +195,8 @@ fn found(verdict: Verdict, rounds: u32) -> Counted
     Counted { verdict, rounds }
 }
 
-// The lengths from C on, each the demand at the one before, until one repeats or passes D, or the rounds that are allowed are used up. A round that is worked out gives
-// every verdict; a stride moves on past rounds that give none, and counts them (`rounds-alike` of StrideLaws).
+// The lengths from C on, each the demand at the one before, until one repeats or passes D, or the rounds that are allowed are used up. A stride
+// moves on past rounds that give no verdict, and counts them: `rounds-alike` of StrideLaws says why that changes nothing.
 fn iterate(s: Shares, deadline: u32, allowance: u32) -> Counted
     requires { ⌜ SoundShares s deadline × (1 ≤ allowance) ⌝ }
     ensures { λ r. ⌜ r ≡ countedFrom (sharesDemand s) deadline allowance (s .start) ⌝ }
@@ -208,7 +208,7 @@ fn iterate(s: Shares, deadline: u32, allowance: u32) -> Counted
     let last = wide(deadline);
     let mut t = s.start;
     let mut used: u32 = 0;
-    let mut plain = strides::BEFORE_FIRST; // rounds before the next look for a stride
+    let mut until_look = strides::BEFORE_FIRST;
     let mut pause: u32 = 0;
     loop {
         let mut whole: u64 = 0;
@@ -237,18 +237,18 @@ fn iterate(s: Shares, deadline: u32, allowance: u32) -> Counted
         if spent == allowance {
             return found(Verdict::Open, spent);
         }
-        if 0 < plain {
+        if 0 < until_look {
             t = f as u32;
             used = spent;
-            plain = plain - 1;
+            until_look = until_look - 1;
         } else {
             let climb = f as u32 - t;
-            let even = strides::even_reach(w, d, s.cpus, t);
-            let k = strides::stride(even, climb, deadline - t, allowance - spent);
+            let reach = strides::even_reach(w, d, s.cpus, t);
+            let k = strides::stride(reach, climb, deadline - t, allowance - spent);
             t = t + k * climb;
             used = used + k;
             pause = strides::pause_after(k, pause);
-            plain = pause;
+            until_look = pause;
         }
     }
 }

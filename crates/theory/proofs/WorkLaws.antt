@@ -114,7 +114,7 @@ unfolding ceilDiv
 ceilDiv-rises m m' n n' pos hm hn =
     le-ceil _ _ m m' n n' (div-mul-le-self (n + (m - 1)) m) (lt-div-mul-add pos) pos hm hn (decLt _ _)
 
--- whole ones may be added before the quotient is taken, or after
+-- a multiple of m may be added before the division, or its quotient after
 pub ceilDiv-whole : (m x n : ℕ) → 0 < m → ceilDiv (n + x * m) m ≡ ceilDiv n m + x
 unfolding ceilDiv
 ceilDiv-whole m x n pos =

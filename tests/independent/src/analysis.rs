@@ -148,10 +148,14 @@ struct Part {
 }
 
 impl Part {
-    fn load(&self, t: u64, most: u64) -> u64 {
+    fn uncapped(&self, t: u64) -> u64 {
         let a = t + self.off;
         let q = a / self.period;
-        most.min(q * self.units + self.units.min(a - q * self.period))
+        q * self.units + self.units.min(a - q * self.period)
+    }
+
+    fn load(&self, t: u64, most: u64) -> u64 {
+        most.min(self.uncapped(t))
     }
 }
 
@@ -213,6 +217,11 @@ impl Reduced {
         let whole: u64 = self.whole.iter().map(|p| p.load(t, most)).sum();
         let divided: u64 = self.divided.iter().map(|p| p.load(t, most)).sum();
         self.base + whole + divided.div_ceil(self.m)
+    }
+
+    /// How many workloads the cap holds at t.
+    pub fn held(&self, t: u64) -> usize {
+        self.whole.iter().chain(&self.divided).filter(|p| p.uncapped(t) > t).count()
     }
 }
 

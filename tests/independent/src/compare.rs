@@ -225,14 +225,15 @@ struct Reports {
     all: Tally,
     with_decimals: Tally,
     by_cap: Tally,
-    broken_off: Tally,
+    breaks: Tally,
     by_bench: Tally,
     nearly_open: Tally,
 }
 
 impl Reports {
     fn new() -> Reports {
-        Reports { all: Tally::new(), with_decimals: Tally::new(), by_cap: Tally::new(), broken_off: Tally::new(), by_bench: Tally::new(), nearly_open: Tally::new() }
+        let [all, with_decimals, by_cap, breaks, by_bench, nearly_open] = std::array::from_fn(|_| Tally::new());
+        Reports { all, with_decimals, by_cap, breaks, by_bench, nearly_open }
     }
 
     fn count(&mut self, listing: &[u8], reported: &str, benched: &str) {
@@ -251,7 +252,7 @@ impl Reports {
         self.all.print(&format!("reports: {} compared", self.all.compared));
         self.with_decimals.print(&format!("of these, {} have a time of four to six decimals", self.with_decimals.compared));
         self.by_cap.print(&format!("the {} accepted, beside the verdicts by the uncapped workload", self.by_cap.compared));
-        self.broken_off.print("their tasks whose rounds climb alike, and what breaks these off");
+        self.breaks.print("their tasks whose rounds climb alike, by what breaks these off");
         self.by_bench.print(&format!("reports of bench: {} compared", self.by_bench.compared));
         self.nearly_open.print("their tasks that take as many rounds as it allows, or one more");
     }
@@ -269,7 +270,7 @@ impl Reports {
         self.all.covers(&wanted(&every, &decided))
             && self.with_decimals.covers(&wanted(&every[1..8], &decided))
             && self.by_cap.covers(&["a bound is smaller", "a miss became a bound"].map(String::from))
-            && self.broken_off.covers(&[strides::CLIMB, strides::BOUND, strides::DEADLINE].map(String::from))
+            && self.breaks.covers(&[strides::CLIMB, strides::CAP, strides::BOUND, strides::DEADLINE].map(String::from))
             && self.by_bench.covers(&wanted(&every, &[decided, open].concat()))
             && self.nearly_open.covers(&nearly.map(String::from))
     }
@@ -294,7 +295,7 @@ pub fn reports(report: &str, bench: &str) -> bool {
         tallies.count(&listing, &reported, &benched);
         if let Ok(table) = listing::read(&listing) {
             for i in 0..table.n as usize {
-                strides::broken_off(&table, i, REPORT).iter().for_each(|by| tallies.broken_off.count(by.to_string()));
+                strides::breaks(&table, i, REPORT).iter().for_each(|by| tallies.breaks.count(by.to_string()));
             }
             if !capped(&mut tallies.by_cap, &table) {
                 return false;

@@ -36,7 +36,7 @@ pub fn long_among_short(r: &mut Random) -> Table {
 }
 
 /// A table on which rounds climb alike, and are broken off. Above are tasks that hardly ever let go, about as many as there are processors, or half as
-/// many that each bring in two parts; among them are some of very short periods; and the lengths of those at the bottom climb step by step.
+/// many that each bring in two parts; among them are up to two of a very short period; and the lengths of those at the bottom climb step by step.
 pub fn broken_off(r: &mut Random) -> Table {
     let m = *r.pick(&[1, 1, 2, 2, 3, 4, 7, 19]);
     let longest = *r.pick(&[100, 700, 3_000, 12_000]);
@@ -44,7 +44,7 @@ pub fn broken_off(r: &mut Random) -> Table {
     let mut tasks = Vec::new();
     while parts > 0 {
         let two = parts > 1 && r.one_in(2);
-        tasks.push(never_idle(r, longest, two));
+        tasks.push(hardly_idle(r, longest, two));
         parts -= 1 + two as u64;
     }
     for _ in 0..r.within(0, 2) {
@@ -65,8 +65,9 @@ pub fn broken_off(r: &mut Random) -> Table {
     table
 }
 
-/// A task that lets go for a moment at most, and holds a lock for a part of its time by many short requests, if it is to bring in two parts.
-fn never_idle(r: &mut Random, longest: u64, two: bool) -> Task {
+/// A task that lets go for a twentieth of its deadline at most. It holds a lock for a part of its time if it is to bring in two parts, and some of the
+/// others for all of it, by many short requests.
+fn hardly_idle(r: &mut Random, longest: u64, two: bool) -> Task {
     let t = if r.one_in(2) { longest } else { r.within(longest / 3, longest) };
     let d = t - if r.one_in(2) { 0 } else { r.within(0, 2.min(t - 1)) };
     let c = d - if r.one_in(2) { 0 } else { r.within(0, d / 20) };
@@ -78,7 +79,7 @@ fn never_idle(r: &mut Random, longest: u64, two: bool) -> Task {
     task
 }
 
-/// A task of a period of 1 to 100 microseconds, half the time with no time between two jobs.
+/// A task of a period of 1 to 100 microseconds; some of them have no time between two jobs.
 fn of_short_period(r: &mut Random) -> Task {
     let t = *r.pick(&[1, 2, 3, 17, 100]);
     let d = if r.one_in(2) { t } else { r.within(1, t) };

@@ -235,7 +235,7 @@ impl Call {
     /// The same, counted by whether the allowance breaks off rounds that climb alike.
     fn bound_among(handed: &Handed, task: u32, allowance: u32) -> Call {
         let call = Call::bound(handed, task, allowance);
-        let among = strides::broken_off(&handed.table, task as usize - 1, allowance as u64).contains(strides::ALLOWANCE);
+        let among = strides::breaks(&handed.table, task as usize - 1, allowance as u64).contains(strides::ALLOWANCE);
         Call { outcome: if among { format!("bound: {}", strides::ALLOWANCE) } else { call.outcome }, ..call }
     }
 
@@ -319,9 +319,11 @@ fn among_rounds() -> impl Iterator<Item = (Table, Vec<Call>)> {
         let mut calls = Vec::new();
         for task in 1..=handed.table.n as u32 {
             let rounds = handed.task(task).map_or(0, |found| found.rounds);
-            if rounds > 17 {
-                let allowances = [17, 18, r.within(18, rounds), r.within(18, rounds), r.within(18, rounds), rounds - 1, rounds];
-                calls.extend(allowances.map(|allowance| Call::bound_among(&handed, task, allowance as u32)));
+            let first = strides::ONE_BY_ONE + 1;
+            if rounds > first {
+                let among = [(); 3].map(|()| r.within(first, rounds));
+                let allowances = [&[first, first + 1], &among[..], &[rounds - 1, rounds]].concat();
+                calls.extend(allowances.into_iter().map(|allowance| Call::bound_among(&handed, task, allowance as u32)));
             }
         }
         (handed.table, calls)

@@ -10,22 +10,22 @@ use Rattle.rounds.proofs.iterate.Statement.{statement}
 use Rattle.rounds.proofs.iterate.Tie as tie
 
 abbrev Inv-loop2 : tie.InvT-loop2
-Inv-loop2 s deadline allowance w d n m last t used plain pause whole₀ i₀ whole i = (i ≤ n) × Summed (w .of) t i whole
+Inv-loop2 s deadline allowance w d n m last t used until-look pause whole₀ i₀ whole i = (i ≤ n) × Summed (w .of) t i whole
 
 abbrev μ-loop2 : tie.MeasureT-loop2
-μ-loop2 s deadline allowance w d n m last t used plain pause whole₀ i₀ whole i = n - i
+μ-loop2 s deadline allowance w d n m last t used until-look pause whole₀ i₀ whole i = n - i
 
 abbrev Inv-loop3 : tie.InvT-loop3
-Inv-loop3 s deadline allowance w d n m last t used plain pause whole i part₀ j₀ part j = (j ≤ m) × Summed (d .of) t j part
+Inv-loop3 s deadline allowance w d n m last t used until-look pause whole i part₀ j₀ part j = (j ≤ m) × Summed (d .of) t j part
 
 abbrev μ-loop3 : tie.MeasureT-loop3
-μ-loop3 s deadline allowance w d n m last t used plain pause whole i part₀ j₀ part j = m - j
+μ-loop3 s deadline allowance w d n m last t used until-look pause whole i part₀ j₀ part j = m - j
 
 abbrev Inv-loop : tie.InvT-loop
-Inv-loop s deadline allowance w d n m last t₀ used₀ plain₀ pause₀ t used plain pause = Sought s deadline allowance t used
+Inv-loop s deadline allowance w d n m last t₀ used₀ until-look₀ pause₀ t used until-look pause = Sought s deadline allowance t used
 
 abbrev μ-loop : tie.MeasureT-loop
-μ-loop s deadline allowance w d n m last t₀ used₀ plain₀ pause₀ t used plain pause = allowance - used
+μ-loop s deadline allowance w d n m last t₀ used₀ until-look₀ pause₀ t used until-look pause = allowance - used
 
 loop-holds : tie.Need-loop-holds Inv-loop2 μ-loop2 Inv-loop3 μ-loop3 Inv-loop μ-loop
 loop-holds c =

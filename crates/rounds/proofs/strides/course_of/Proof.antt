@@ -1,9 +1,9 @@
--- `rounds::strides::reach_of` meets its contract, case by case. Assumes nothing.
+-- `rounds::strides::course_of` meets its contract, case by case. Assumes nothing.
 use native.Mathlib.Omega.{arith}
 use borrow.Author.Needs.{needs}
 use Rattle.rounds.proofs.StrideLaws.{goes-full, goes-running, goes-capped, goes-flat}
-use Rattle.rounds.proofs.strides.reach_of.Statement.{statement}
-use Rattle.rounds.proofs.strides.reach_of.Tie as tie
+use Rattle.rounds.proofs.strides.course_of.Statement.{statement}
+use Rattle.rounds.proofs.strides.course_of.Tie as tie
 
 returns : tie.Need-returns
 returns c =
@@ -13,7 +13,7 @@ returns c =
 returns-2 : tie.Need-returns-2
 returns-2 c =
     let b = c .before .before .before .before .before .before in
-    record { few = omega arith; straight = goes-running (b .args .e) (b .args .t) (b .pre .0) (c .before .before .before .rest .ensures) (omega arith) }
+    record { few = omega arith; straight = goes-running (b .args .e) (b .args .t) (b .pre .0) (c .before .before .before .gone .ensures) (omega arith) }
 
 returns-3 : tie.Need-returns-3
 returns-3 c =
@@ -23,15 +23,15 @@ returns-3 c =
 returns-4 : tie.Need-returns-4
 returns-4 c =
     let b = c .before .before .before .before .before .before .before .before in
-    let r = c .before .before .before .before .before .rest .ensures in
+    let r = c .before .before .before .before .before .gone .ensures in
     let u = c .before .before .uncapped .ensures in
     record {
       few = omega arith;
       straight = goes-flat (b .args .e) (b .args .t) (b .pre .0) r (omega (arith, u .is)) (omega arith) (omega (arith, r .less));
     }
 
-pub reach-of-spec : {M : Type 1} → statement M
-reach-of-spec =
+pub course-of-spec : {M : Type 1} → statement M
+course-of-spec =
     tie.close
     (tie.spec
     returns

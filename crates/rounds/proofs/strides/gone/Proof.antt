@@ -1,11 +1,11 @@
--- `rounds::strides::rest` meets its contract. Assumes nothing.
+-- `rounds::strides::gone` meets its contract. Assumes nothing.
 use Prim.Native.Nat.{_+_, _*_, _≤_}
 use native.Mathlib.Nat.{lt-div-mul-add}
 use native.Mathlib.Omega.{arith}
 use borrow.Author.Needs.{needs}
 use Rattle.rounds.proofs.QuotLaws.{periods-fit}
-use Rattle.rounds.proofs.strides.rest.Statement.{statement}
-use Rattle.rounds.proofs.strides.rest.Tie as tie
+use Rattle.rounds.proofs.strides.gone.Statement.{statement}
+use Rattle.rounds.proofs.strides.gone.Tie as tie
 
 -- the product
 fits : (c : tie.After-quot)
@@ -28,5 +28,5 @@ returns c =
     let q = c .before .quot .ensures in
     record { is = rw q; less = rw q (omega (arith, lt-div-mul-add {a = b .args .t + e .off} (b .pre .0 .period-least))) }
 
-pub rest-spec : {M : Type 1} → statement M
-rest-spec = tie.close (tie.spec (λ c. search needs) (λ c κs. search needs) mul-result sub-result returns)
+pub gone-spec : {M : Type 1} → statement M
+gone-spec = tie.close (tie.spec (λ c. search needs) (λ c κs. search needs) mul-result sub-result returns)
