@@ -342,21 +342,46 @@ fn slow() -> String {
     "cpus 1\ntask 10000 10000 10000\ntask 10000 0.001 10000\n".into()
 }
 
-/// The slowest table that was found: 87 million rounds, with 3.7 thousand million workloads. Each of the last 13 tasks climbs by one to four a
-/// round, and has 37 to 49 workloads in it. The first nine tasks never let go, each as O and as F, and the tenth does for a unit every 160 ms:
-/// together they leave the processors ever so little room. The next nine bring two parts of a unit each, and a second job at about the time
-/// when that room would end the climb of those after them.
-/// The benchmark alone compares it: the iteration takes this program 12 seconds, and the paper's terms at every round would take minutes.
-fn slowest() -> String {
-    let short = |j: u64| format!("task {} 0.002 0.002\nuse 1 1 0.001 0.001\n", 5_900 + 320 * j);
-    [
-        "cpus 19\n".into(),
-        "task 10000 10000 10000\nuse 1 1000 5 5000\n".repeat(9),
-        "task 160 159.999 159.999\n".into(),
-        (0..9).map(short).collect(),
-        "task 10000 0.001 10000\n".repeat(13),
-    ]
-    .concat()
+/// The lengths of the last 13 tasks climb by one to four a round, with some forty workloads in it. Those above hardly ever let go, each as O and as F,
+/// and the one after them does for a unit every 160 ms: together they leave the processors ever so little room. The brief ones bring two parts of
+/// a unit each, and a second job at about the time when that room would end the climb.
+/// The benchmark alone compares these tables: the iteration takes this program seconds, and the paper's terms at every round would take minutes.
+fn climbing(above: &str, brief: &str) -> String {
+    ["cpus 19\n", above, "task 160 159.999 159.999\n", brief, &"task 10000 0.001 10000\n".repeat(13)].concat()
+}
+
+const NEVER_IDLE: &str = "task 10000 10000 10000\nuse 1 1000 5 5000\n";
+
+/// Tasks of 2 microseconds with long periods: what follows the period in the line, and the lock.
+fn brief(how_many: u64, figures: &str) -> String {
+    (0..how_many).map(|j| format!("task {} {figures}", 5_900 + 320 * j)).collect()
+}
+
+/// The slowest table that was found while each round was worked out: 87 million rounds, with 3.7 thousand million workloads. Nearly all its rounds
+/// are taken in strides.
+fn long_climb() -> String {
+    climbing(&NEVER_IDLE.repeat(9), &brief(9, "0.002 0.002\nuse 1 1 0.001 0.001\n"))
+}
+
+/// About the slowest table that is known: the same, with tasks of 3 and 2 microseconds in place of one of those above, and a brief one less. These begin
+/// a job every microsecond or two, so that there is hardly a stride.
+fn short_periods() -> String {
+    let tiny = "task 0.003 0.003 0.003\nuse 1 1 0.001 0.001\ntask 0.002 0.002 0.002\nuse 1 1 0.001 0.001\n";
+    climbing(&(NEVER_IDLE.repeat(8) + tiny), &brief(8, "0.002 0.002\nuse 1 1 0.001 0.001\n"))
+}
+
+/// Every task meets, after 32 million rounds in all: those above let go in the end, and share their locks with nobody.
+fn slow_meets() -> String {
+    let above: String = (1..=9).map(|k| format!("task 10000 9900 9900\nuse {k} 1000 4.95 4950\n")).collect();
+    climbing(&above, &brief(9, "0.002 0.020\nuse 10 1 0.001 0.001\n"))
+}
+
+/// About the slowest table that was found with no period under a millisecond. Those above never let go, and each is split by its lock: so a load begins
+/// or ends every ten microseconds or so, at ever other places, since no two periods are the same.
+fn from_1_ms() -> String {
+    let above = |period: u64| format!("task {0} {0} {0}\nuse 1 1 0.001 0.001\n", ms(period));
+    let above: String = (1_001..=1_018).map(above).collect();
+    ["cpus 19\n", &above, "task 120 119.999 119.999\nuse 1 1 0.001 0.001\n", &"task 10000 0.001 10000\n".repeat(13)].concat()
 }
 
 pub fn listings() -> Vec<Vec<u8>> {
@@ -600,6 +625,14 @@ fn ms(us: u64) -> String {
 }
 
 /// What the benchmark runs both programs on.
-pub fn benchmark() -> [(&'static str, String); 4] {
-    [("full", full()), ("largest", largest()), ("slow", slow()), ("slowest", slowest())]
+pub fn benchmark() -> [(&'static str, String); 7] {
+    [
+        ("full", full()),
+        ("largest", largest()),
+        ("slow", slow()),
+        ("long-climb", long_climb()),
+        ("slow-meets", slow_meets()),
+        ("from-1-ms", from_1_ms()),
+        ("short-periods", short_periods()),
+    ]
 }
