@@ -36,7 +36,8 @@ pub fn long_among_short(r: &mut Random) -> Table {
 }
 
 /// A table on which rounds climb alike, and are broken off. Above are tasks that hardly ever let go, about as many as there are processors, or half as
-/// many that each bring in two parts; among them are up to two of a very short period; and the lengths of those at the bottom climb step by step.
+/// many that each bring in two parts, and some that the cap holds at first. Among them are up to two of a very short period, and the lengths of
+/// those at the bottom climb step by step.
 pub fn broken_off(r: &mut Random) -> Table {
     let m = *r.pick(&[1, 1, 2, 2, 3, 4, 7, 19]);
     let longest = *r.pick(&[100, 700, 3_000, 12_000]);
@@ -44,7 +45,8 @@ pub fn broken_off(r: &mut Random) -> Table {
     let mut tasks = Vec::new();
     while parts > 0 {
         let two = parts > 1 && r.one_in(2);
-        tasks.push(hardly_idle(r, longest, two));
+        let held = !two && r.one_in(4);
+        tasks.push(if held { held_at_first(r, longest) } else { hardly_idle(r, longest, two) });
         parts -= 1 + two as u64;
     }
     for _ in 0..r.within(0, 2) {
@@ -77,6 +79,12 @@ fn hardly_idle(r: &mut Random, longest: u64, two: bool) -> Task {
         task.locks[r.one_in(2) as usize] = Lock { n: COUNT, c: ct.div_ceil(COUNT), ct };
     }
     task
+}
+
+/// A task whose workload the cap holds at t until t is its run time; then it stays, as long as the deadline is before the next period.
+fn held_at_first(r: &mut Random, longest: u64) -> Task {
+    let d = r.within(longest / 2, longest - 1);
+    Task { t: longest, c: r.within(d / 4, d / 2), d, ..Task::default() }
 }
 
 /// A task of a period of 1 to 100 microseconds; some of them have no time between two jobs.
