@@ -1,45 +1,35 @@
 -- Demand 1 holds.
 -- Assumes nothing.
-use Prim.Native.Nat.{_*_}
 use mathlib.Core.Path.{refl, sym}
-use native.Mathlib.Omega.{arith}
 use base.Logic.{id⊢}
-use lib.ListN.{length}
-use lib.Dec.{leb}
-use Rattle.basics.specs.Choice.{within}
 use Rattle.basics.specs.Over.{joinTo}
-use Rattle.table.specs.declared.Fault.the-variants.{UnknownTask, TooShort, NoRounds}
 use Rattle.table.proofs.Determined.{number-determined, empty-determined}
-use Rattle.table.proofs.FirstDecides.{one-number, rule-decides, two-decide, many-decide, rule-by, first-rule, second-rule, above-fails, none-fails, some-holds, within-holds, within-fails}
-use Rattle.table.proofs.Acceptance.{fine-accepted, accepted-fine}
 use Rattle.rules.proofs.Determined.{first-of-determined, in-range-determined, times-determined, used-in-range-determined, totals-fit-determined, pair-determined}
 use Rattle.checking.proofs.Determined.{check-determined}
 use Rattle.field.proofs.Determined.{time-determined, count-determined, ends-at-determined}
 use Rattle.put.proofs.Determined.{put-time-determined, put-count-determined, put-text-determined, put-length-determined, count-len-determined, time-len-determined}
 use Rattle.put.proofs.PutLaws.{short-is}
-use Rattle.writing.specs.Write.{textOf, writeFault, written}
+use Rattle.writing.specs.Write.{written}
 use Rattle.line.proofs.Determined.{line-of-determined}
 use Rattle.listing.proofs.Determined.{read-determined}
 use Rattle.writing.proofs.Determined.{write-determined}
 use Rattle.meaning.proofs.Refused.{listing-empty}
-use Rattle.meaning.proofs.ListingRefusals.{refused-as-called}
 use Rattle.rounds.proofs.Determined.{outcome-of-determined}
 use Rattle.shares.proofs.Determined.{shares-of-determined}
 use Rattle.refusal.proofs.Determined.{put-refusal-determined}
 use Rattle.checksum.proofs.Determined.{check-of-determined}
 use Rattle.block.proofs.Determined.{put-block-determined, is-good-determined, head-of-determined, task-of-determined}
-use Rattle.block.specs.Block.{blockSize}
-use Rattle.card.specs.Archive.{archivingFault, archiving}
+use Rattle.card.specs.Archive.{archiving}
 use Rattle.card.proofs.Determined.{read-determined as card-read-determined, write-determined as card-write-determined}
-use Rattle.release.proofs.Called.{archive-empty, refused-as-called as archive-refused}
+use Rattle.release.proofs.Called.{archive-empty}
 use Rattle.salvaging.specs.Salvage.{salvaged}
 use Rattle.salvaging.proofs.Determined.{code-determined, blocks-of-determined, salvage-determined}
-use Rattle.recovery.proofs.Called.{salvaged-as-called}
 use Rattle.recovery.proofs.Listed.{list-kept, list-written}
-use Rattle.analysis.specs.Answers.{boundFault, analysisFault, recordCount, analysed}
+use Rattle.analysis.specs.Answers.{recordCount, analysed}
 use Rattle.analysis.proofs.Determined.{bound-determined, analyse-all-determined, analyse-determined}
 use Rattle.page.proofs.Determined.{page-of-determined, put-header-determined, put-row-determined}
-use Rattle.promises.specs.Demand1.{Entries, Determines, Keeps, KeepsOrLists, FirstDecides, Demand1}
+use Rattle.promises.specs.Demand1.{Entries, Determines, Keeps, KeepsOrLists, Demand1}
+use Rattle.promises.proofs.RefusalsHold.{first-decides}
 
 entries : Entries
 entries =
@@ -124,28 +114,6 @@ keeps =
 keeps-or-lists : KeepsOrLists
 unfolding salvaged
 keeps-or-lists = record { output = λ s entries out r e. rw e; list-kept = list-kept; list-written = list-written }
-
--- ---- the first rule that fails decides
-
-first-decides : FirstDecides
-unfolding boundFault analysisFault writeFault archivingFault
-first-decides =
-    record {
-      numbers = one-number;
-      listing = refused-as-called;
-      card = archive-refused;
-      salvage = salvaged-as-called;
-      rule = rule-decides;
-      two = two-decide;
-      many = many-decide;
-      fine = λ t. (fine-accepted t, accepted-fine t);
-      ten = λ t i allowance e. rw e (first-rule (within 1 (t .n) (i .0)) UnknownTask (leb 1 allowance) NoRounds (λ z. omega (arith, z)) (within-fails (t .n) (i .0)));
-      sixteen-task = λ t i allowance e. rw e (second-rule (within 1 (t .n) (i .0)) UnknownTask (leb 1 allowance) NoRounds (λ z. omega (arith, z)) (within-holds (t .n) (i .0)) (none-fails allowance));
-      sixteen-row = λ t allowance room e. rw e (first-rule (leb 1 allowance) NoRounds (leb (t .n) room) TooShort (λ z. omega (arith, z)) (none-fails allowance));
-      eleven-row = λ t allowance room e. rw e (second-rule (leb 1 allowance) NoRounds (leb (t .n) room) TooShort (λ z. omega (arith, z)) (some-holds allowance) (above-fails (t .n) room));
-      eleven-output = λ t room e. rw e (rule-by _ TooShort (above-fails (length (textOf t)) room));
-      eleven-archiving = λ t room e. rw e (rule-by _ TooShort (above-fails (blockSize * t .n) room));
-    }
 
 pub demand1 : Demand1
 demand1 = record { entries = entries; determines = determines; keeps = keeps; keeps-or-lists = keeps-or-lists; first-decides = first-decides }

@@ -1,8 +1,7 @@
 -- Demand 1: every input gets an answer that the contract determines; a refusal is given exactly when its rule is the first that fails,
 -- and then everything lent holds what it held, with one amendment: of a card with bad blocks the list is written unless 15 or 11 is given. (That each function answers at all, and does nothing undefined, is what the checker proves of every function.)
-use Prim.Native.Nat.{ℕ, _*_, _≤_, _<_}
+use Prim.Native.Nat.{ℕ}
 use mathlib.Core.Path.{_≡_}
-use mathlib.Core.Bool.{Bool, false}
 use mathlib.Core.List.{List, _++_}
 use mathlib.Core.Logic.{_⊎_}
 use contract.Lifetimes.{Lfts}
@@ -17,32 +16,24 @@ use denote.Triple.Entry.{Args}
 use denote.Triple.Clauses.{AtExit}
 use lib.ListN.{length, drop}
 use Rattle.basics.specs.Text.{putInto}
-use Rattle.basics.specs.Exactly.{_exactly-if_}
 use Rattle.basics.specs.Determined.{Determined, DeterminedWith}
-use Rattle.table.specs.declared.Level.{Level}
 use Rattle.table.specs.declared.Refusal.{Refusal}
-use Rattle.table.specs.declared.Fault.{Fault}
 use Rattle.table.specs.declared.Table.{Table}
 use Rattle.table.specs.declared.Checked.{Checked}
-use Rattle.table.specs.declared.Checked.the-variants.{Fine, Refused}
+use Rattle.table.specs.declared.Checked.the-variants.{Refused}
 use Rattle.table.specs.Limits.{maxTasks}
 use Rattle.table.specs.Empty.{emptyTable}
-use Rattle.table.specs.Faults.{numberOf, Refuses, _then_, unless, firstFault}
+use Rattle.table.specs.Faults.{numberOf, Refuses}
 use Rattle.table.specs.Rules.{tableFault}
-use Rattle.table.specs.Accepted.{Accepted}
 use Rattle.put.specs.declared.Put.the-variants.{Short}
 use Rattle.put.specs.Text.{putAnswer}
 use Rattle.listing.specs.Read.{readListing}
-use Rattle.meaning.specs.Refusals.{RefusedAsCalled}
-use Rattle.writing.specs.Write.{textOf, writeFault, writeAnswer, written}
-use Rattle.block.specs.Block.{blockSize}
+use Rattle.writing.specs.Write.{writeFault, writeAnswer, written}
 use Rattle.card.specs.Archive.{archivingFault, archivingAnswer, archiving, readArchive}
-use Rattle.release.specs.Refusals.{RefusedAsCalled as CardRefusedAsCalled}
 use Rattle.salvaging.specs.Fates.{codeOf, codesOf}
 use Rattle.salvaging.specs.Salvage.{blocksOf, salvageFault, salvageAnswer, listed, salvaged}
-use Rattle.recovery.specs.Refusals.{SalvagedAsCalled}
 use Rattle.analysis.specs.declared.Record.{Record}
-use Rattle.analysis.specs.Answers.{boundFault, boundOf, analysisFault, analysed, FillsRow}
+use Rattle.analysis.specs.Answers.{boundOf, analysisFault, analysed, FillsRow}
 use Rattle.table.proofs.Fault.number.Reads as number
 use Rattle.table.proofs.Table.empty.Reads as empty
 use Rattle.checking.proofs.check.Reads as check
@@ -84,6 +75,7 @@ use Rattle.page.proofs.page_of.Reads as page-of
 use Rattle.page.proofs.put_header.Reads as put-header
 use Rattle.page.proofs.put_row.Reads as put-row
 use Rattle.promises.specs.Words.{Answers, Leaves}
+use Rattle.promises.specs.Refusals.{FirstDecides}
 
 -- ---- the library's entry points answer what these definitions say: what follows, here and in the other files, is said of them
 
@@ -175,36 +167,10 @@ pub record KeepsOrLists : Type 0 where
   pub list-written : (s list : List ℕ) (room : ℕ) → (Refuses (salvageFault s (length list) room) 15 0 → ⊥) → (Refuses (salvageFault s (length list) room) 11 0 → ⊥)
       → listed s list room ≡ codesOf s ++ drop (length (codesOf s)) list
 
--- ---- a refusal is given, with its number and place, exactly when its rule is the first that fails (`Refuses c k p`: the check c refuses with the number k, at the place p)
-
-pub record FirstDecides : Type 0 where
-  -- no two refusals have one number
-  pub numbers : (a b : Fault) → numberOf a ≡ numberOf b → a ≡ b
-  -- a listing, and a line of it
-  pub listing : RefusedAsCalled
-  -- an archive: 12, 13 and 14, and then the table's own
-  pub card : CardRefusedAsCalled
-  -- a card with bad blocks: 15, 11 and 14, and then the table's own; and what becomes of each block
-  pub salvage : SalvagedAsCalled
-  -- of a table: one rule, two rules after each other, and the rules of n things
-  pub rule : (test : Bool) (fault : Fault) (place : ℕ) → Refuses (unless test fault place) (numberOf fault) place exactly-if (test ≡ false)
-  pub two : (a b : Checked) (k p : ℕ) → Refuses (a then b) k p exactly-if (Refuses a k p ⊎ ((a ≡ Fine) × Refuses b k p))
-  pub many : (n : ℕ) (f : ℕ → Checked) (k p : ℕ)
-      → Refuses (firstFault n f) k p exactly-if ((i : ℕ) × (i < n) × Refuses (f i) k p × ((j : ℕ) → j < i → f j ≡ Fine))
-  -- a table is accepted exactly if it holds the paper's bounds
-  pub fine : (t : Table) → (tableFault t ≡ Fine) exactly-if Accepted t
-  -- after the table's own: 10, and 16 only after it, of a task; 16, and 11 only after it, of a row; and 11 of an output, be it of a listing or of an archive
-  pub ten : (t : Table) (i : Level) (allowance : ℕ) → tableFault t ≡ Fine → Refuses (boundFault t i allowance) 10 0 exactly-if ((i .0 ≡ 0) ⊎ (t .n < i .0))
-  pub sixteen-task : (t : Table) (i : Level) (allowance : ℕ) → tableFault t ≡ Fine
-      → Refuses (boundFault t i allowance) 16 0 exactly-if (((1 ≤ i .0) × (i .0 ≤ t .n)) × (allowance ≡ 0))
-  pub sixteen-row : (t : Table) (allowance room : ℕ) → tableFault t ≡ Fine → Refuses (analysisFault t allowance room) 16 0 exactly-if (allowance ≡ 0)
-  pub eleven-row : (t : Table) (allowance room : ℕ) → tableFault t ≡ Fine → Refuses (analysisFault t allowance room) 11 0 exactly-if ((1 ≤ allowance) × (room < t .n))
-  pub eleven-output : (t : Table) (room : ℕ) → tableFault t ≡ Fine → Refuses (writeFault t room) 11 0 exactly-if (room < length (textOf t))
-  pub eleven-archiving : (t : Table) (room : ℕ) → tableFault t ≡ Fine → Refuses (archivingFault t room) 11 0 exactly-if (room < blockSize * t .n)
-
 pub record Demand1 : Type 2 where
   pub entries : Entries
   pub determines : Determines
   pub keeps : Keeps
   pub keeps-or-lists : KeepsOrLists
+  -- a refusal is given, with its number and place, exactly when its rule is the first that fails
   pub first-decides : FirstDecides

@@ -1,5 +1,6 @@
 -- What Footplatter guarantees. Read these files, and the definitions that they cite, and nothing else.
 --   Demand1   every input gets an answer, the contract determines it; a refusal is given, with its number and place, exactly when the paper calls for it, and changes nothing
+--   Refusals  of it: a refusal is given exactly when it is called for, each case by itself
 --   Demand2   the bound is the right one, a table holds what its listing states, which is one thing only, and what is written reads back
 --   NoEasier  demand 3 and request 7/12, as one result: a table that is no easier never gives a smaller bound
 --   NotEmpty  pairs of tables that show it, computed
@@ -14,6 +15,7 @@
 --   Points    the paper's points marked P, two of them as request 3/12 has them, and the reports with request 6/12's rounds
 --   Words     what these are made of
 pub mod Words
+pub mod Refusals
 pub mod Demand1
 pub mod Demand2
 pub mod NoEasier

@@ -1,7 +1,7 @@
 -- Request 6/12 of document 02: how many rounds. That an allowance of 0 is refused is in demand 1, and when a verdict is open in demand 2 too.
 use Prim.Native.Nat.{ℕ, suc, _+_, _-_, _≤_, _<_}
 use mathlib.Core.Path.{_≡_}
-use mathlib.Core.List.{List, []}
+use mathlib.Core.List.{List}
 use Rattle.basics.specs.Exactly.{_exactly-if_}
 use Rattle.table.specs.declared.Table.{Table}
 use Rattle.table.specs.declared.Checked.the-variants.{Fine}

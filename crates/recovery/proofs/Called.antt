@@ -2,46 +2,31 @@
 -- Assumes nothing.
 use Prim.Native.Nat.{ℕ, _<_}
 use mathlib.Core.Path.{_≡_, refl, sym}
-use mathlib.Core.Bool.{Bool, false}
+use mathlib.Core.Bool.{false}
 use mathlib.Core.Logic.{_⊎_, inl, inr}
 use mathlib.Core.List.{List}
 use native.Mathlib.Omega.{arith}
 use native.Mathlib.Decide.{decLt}
 use borrow.Author.Tests.{le-leb, lt-leb}
 use lib.ListN.{length}
-use Rattle.table.specs.declared.Fault.{Fault}
 use Rattle.table.specs.declared.Fault.the-variants.{TooShort, Mismatch, BadCard}
 use Rattle.table.specs.declared.Checked.{Checked}
 use Rattle.table.specs.declared.Checked.the-variants.{Fine}
 use Rattle.table.specs.Limits.{maxTasks}
-use Rattle.table.specs.Faults.{numberOf, Refuses, _then_, unless}
+use Rattle.table.specs.Faults.{Refuses, unless}
 use Rattle.table.specs.Rules.{tableFault}
 use Rattle.table.specs.Accepted.{Accepted}
-use Rattle.table.proofs.FirstDecides.{two-decide}
+use Rattle.table.proofs.FirstDecides.{two-decide, is-rule, from-rule, from-two, fails, failing}
+use Rattle.table.proofs.Called.{refused-as-called as table-refused}
 use Rattle.table.proofs.RuleLaws.{unless-fine}
 use Rattle.table.proofs.Acceptance.{fine-accepted, accepted-fine}
 use Rattle.card.specs.Archive.{blocksIn, tableIn}
-use Rattle.release.proofs.Rules.{rule-is, is-rule, fails, failing}
 use Rattle.salvaging.specs.Fates.{codesOf}
 use Rattle.salvaging.specs.Salvage.{isComplete, isCard, hasRoom, roomFault, leftFault, salvageFault, mended}
 use Rattle.recovery.specs.Refusals.{WholeCard, Complete, Ordered, Room, CallsFor, bad-card, too-short, incomplete, table, SalvagedAsCalled}
 use Rattle.recovery.proofs.LeftLaws.{becomes, fate-is}
 use Rattle.recovery.proofs.CardLaws.{card-blocks, card-is, is-card, room-is, is-room, room-fits, room-fine, fine-sound, sound-fine}
 use Rattle.recovery.proofs.Complete.{complete-is, is-complete, mended-length, ordered}
-
--- ---- what is concluded from a refusal
-
--- of two checks
-pub from-two : {A : Type 0} (a b : Checked) (k p : ℕ) → (Refuses a k p → A) → (a ≡ Fine → Refuses b k p → A) → Refuses (a then b) k p → A
-from-two {A} a b k p f g x = go (two-decide a b k p .0 x)
-  where
-    go : Refuses a k p ⊎ ((a ≡ Fine) × Refuses b k p) → A
-    go (inl y) = f y
-    go (inr y) = g (y .0) (y .1)
-
--- of a rule
-from-rule : (C : ℕ → ℕ → Type 0) (test : Bool) (f : Fault) (q k p : ℕ) → (test ≡ false → C (numberOf f) q) → Refuses (unless test f q) k p → C k p
-from-rule C test f q k p h x = let r = rule-is test f q k p x in rw (← r .1, ← r .2) (h (r .0))
 
 module _ (s : List ℕ) (entries room : ℕ) where
   abbrev ownFault : Checked
@@ -82,7 +67,7 @@ module _ (s : List ℕ) (entries room : ℕ) where
   left-calls w fits k p =
       from-two (unless (isComplete s (codesOf s)) Mismatch 0) ownFault k p
       (from-rule (CallsFor s entries room) (isComplete s (codesOf s)) Mismatch 0 k p (λ e. incomplete (blocksIn s) w fits (λ n. fails _ (is-complete s n) e)))
-      (λ f x. let c = complete-is s (unless-fine _ Mismatch 0 f) in table (blocksIn s) _ (mended s) w fits c (ordered s (mended s) (blocksIn s) _ w c .1 refl) x)
+      (λ f x. let c = complete-is s (unless-fine _ Mismatch 0 f) in table (blocksIn s) _ (mended s) w fits c (ordered s (mended s) (blocksIn s) _ w c .1 refl) (table-refused .refused (tableIn (mended s)) k p .0 x))
 
   refused-calls : (k p : ℕ) → Refuses (salvageFault s entries room) k p → CallsFor s entries room k p
   unfolding salvageFault
@@ -127,7 +112,7 @@ module _ (s : List ℕ) (entries room : ℕ) where
   calls-refused _ _ (incomplete k w fits n) = let e = sym (card-blocks w) in left-given (rw e at w) (rw e at fits) 14 0 (incomplete-given (rw e at n))
   calls-refused q p (table k n a w fits c o x) =
       let e = sym (card-blocks w) in
-      left-given (rw e at w) (rw e at fits) q p (own-given n q p (rw e at c) (rw (ordered s a k n w c .0 o) at x))
+      left-given (rw e at w) (rw e at fits) q p (own-given n q p (rw e at c) (table-refused .refused (tableIn (mended s)) q p .1 (rw (ordered s a k n w c .0 o) at x)))
 
   -- ---- nothing is refused
 

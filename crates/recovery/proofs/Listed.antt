@@ -1,69 +1,21 @@
 -- After which refusals the list is written: not after 15 and 11, and after every other.
 -- Assumes nothing.
-use Prim.Native.Nat.{ℕ, _+_, _≤_}
+use Prim.Native.Nat.{ℕ, _≤_}
 use mathlib.Core.Path.{_≡_, refl, sym}
-use mathlib.Core.Bool.{Bool}
 use mathlib.Core.Logic.{_⊎_, inl, inr, ⊎-elim}
 use mathlib.Core.List.{List, _++_}
 use native.Mathlib.Omega.{arith}
-use lib.Dec.{leb}
 use lib.ListN.{length, drop}
-use Rattle.basics.specs.Choice.{within}
-use Rattle.table.specs.declared.Fault.{Fault}
-use Rattle.table.specs.declared.Fault.the-variants.{OutOfRange, BadTimes, BadTotals, TooManyTasks, NoTask, TooShort, Mismatch, BadCard}
+use Rattle.table.specs.declared.Fault.the-variants.{TooShort, Mismatch, BadCard}
 use Rattle.table.specs.declared.Checked.{Checked}
 use Rattle.table.specs.declared.Checked.the-variants.{Fine, Refused}
-use Rattle.table.specs.declared.Pair.{Pair}
-use Rattle.table.specs.declared.Task.{Task}
-use Rattle.table.specs.declared.Table.{Table}
-use Rattle.table.specs.Limits.{maxCpus, maxTasks, maxResources}
-use Rattle.table.specs.At.{taskAt}
-use Rattle.table.specs.Faults.{numberOf, Refuses, _then_, unless, firstFault}
-use Rattle.table.specs.Rules.{timesInRange, timesInOrder, timesFault, pairInRange, totalsFit, pairFault, pairFaultOf, pairsFault, taskFault, taskFaultAt, tasksFault, tableFault}
-use Rattle.table.proofs.FirstDecides.{two-decide, many-decide}
+use Rattle.table.specs.Faults.{numberOf, Refuses, unless}
+use Rattle.table.specs.Rules.{tableFault}
+use Rattle.table.proofs.FirstDecides.{rule-is, from-two, by-first}
+use Rattle.table.proofs.Called.{refused-as-called as table-refused, number-most}
 use Rattle.card.specs.Archive.{tableIn}
-use Rattle.release.proofs.Rules.{rule-is}
 use Rattle.salvaging.specs.Fates.{codesOf}
 use Rattle.salvaging.specs.Salvage.{leftIn, isComplete, inOrder, isCard, hasRoom, roomFault, leftFault, salvageFault, listed}
-use Rattle.recovery.proofs.Called.{from-two}
-
--- ---- the numbers of the table's own: at most 9
-
--- what a check refuses with
-unfoldable Small : Checked → Type 0
-Small c = (k p : ℕ) → Refuses c k p → k ≤ 9
-
-small-rule : (test : Bool) (f : Fault) (q : ℕ) → numberOf f ≤ 9 → Small (unless test f q)
-unfolding Small
-small-rule test f q h k p x = omega (arith, rule-is test f q k p x .1)
-
-small-two : (a b : Checked) → Small a → Small b → Small (a then b)
-unfolding Small
-small-two a b f g k p = from-two a b k p (f k p) (λ _. g k p)
-
-small-many : (n : ℕ) (f : ℕ → Checked) → ((i : ℕ) → Small (f i)) → Small (firstFault n f)
-unfolding Small
-small-many n f each k p x = let y = many-decide n f k p .0 x in each (y .0) k p (y .2)
-
-small-times : (place T C D : ℕ) → Small (timesFault place T C D)
-unfolding timesFault
-small-times place T C D = small-two _ _ (small-rule (timesInRange T C D) OutOfRange place (omega arith)) (small-rule (timesInOrder T C D) BadTimes place (omega arith))
-
-small-pair : (place : ℕ) (p : Pair) (sum C : ℕ) → Small (pairFault place p sum C)
-unfolding pairFault
-small-pair place p sum C = small-two _ _ (small-rule (pairInRange p) OutOfRange place (omega arith)) (small-rule (totalsFit p sum C) BadTotals place (omega arith))
-
-small-task : (place : ℕ) (x : Task) → Small (taskFault place x)
-unfolding taskFault pairsFault
-small-task place x = small-two _ _ (small-times place _ _ _) (small-many maxResources (pairFaultOf place x) (λ k. small-pair place _ _ _))
-
-small-table : (t : Table) → Small (tableFault t)
-unfolding tableFault tasksFault
-small-table t =
-    small-two _ _ (small-rule (leb 1 (t .n)) NoTask 0 (omega arith))
-    (small-two _ _ (small-rule (leb (t .n) maxTasks) TooManyTasks 0 (omega arith))
-    (small-two _ _ (small-rule (within 1 maxCpus (t .cpus)) OutOfRange 0 (omega arith))
-    (small-many (t .n) (taskFaultAt t) (λ i. small-task (i + 1) (taskAt t i)))))
 
 -- ---- the list
 
@@ -88,11 +40,11 @@ module _ (s list : List ℕ) (room : ℕ) where
 
   -- 14 and the table's own
   late-number : (k p : ℕ) → Refuses (leftFault s (codesOf s)) k p → (k ≡ 14) ⊎ (k ≤ 9)
-  unfolding leftFault Small
+  unfolding leftFault
   late-number k p =
       from-two (unless (isComplete s (codesOf s)) Mismatch 0) (tableFault (tableIn (inOrder s (codesOf s) (leftIn (codesOf s))))) k p
       (λ x. inl (sym (rule-is (isComplete s (codesOf s)) Mismatch 0 k p x .1)))
-      (λ _ x. inr (small-table (tableIn (inOrder s (codesOf s) (leftIn (codesOf s)))) k p x))
+      (λ _ x. inr (number-most (table-refused .refused (tableIn (inOrder s (codesOf s) (leftIn (codesOf s)))) k p .0 x)))
 
   -- what refuses the list
   kept-by : (k p : ℕ) → Refuses early k p → listed s list room ≡ list
@@ -116,11 +68,8 @@ pub list-written : (s list : List ℕ) (room : ℕ) → (Refuses (salvageFault s
 unfolding salvageFault
 list-written s list room m n = go (early s list room) refl
   where
-    refused : (k p : ℕ) → Refuses (early s list room) k p → Refuses (early s list room then leftFault s (codesOf s)) k p
-    refused k p x = two-decide (early s list room) (leftFault s (codesOf s)) k p .1 (inl x)
-
     go : (c : Checked) → early s list room ≡ c → listed s list room ≡ codesOf s ++ drop (length (codesOf s)) list
     go Fine e = written-by s list room e
     go (Refused r) e =
         let x : Refuses (early s list room) (numberOf (r .fault)) (r .place) = (r, e, record { number = refl; place = refl }) in
-        absurd (⊎-elim (λ y. m (refused 15 0 y)) (λ y. n (refused 11 0 y)) (early-number s list room (numberOf (r .fault)) (r .place) x))
+        absurd (⊎-elim (λ y. m (by-first (early s list room) _ 15 0 y)) (λ y. n (by-first (early s list room) _ 11 0 y)) (early-number s list room (numberOf (r .fault)) (r .place) x))

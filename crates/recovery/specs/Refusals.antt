@@ -8,8 +8,8 @@ use Rattle.basics.specs.Exactly.{_exactly-if_}
 use Rattle.table.specs.declared.Checked.the-variants.{Fine}
 use Rattle.table.specs.Limits.{maxTasks}
 use Rattle.table.specs.Faults.{Refuses}
-use Rattle.table.specs.Rules.{tableFault}
 use Rattle.table.specs.Accepted.{Accepted}
+use Rattle.table.specs.Refusals.{CallsFor as TableCallsFor}
 use Rattle.block.specs.Numbers.{byteAt}
 use Rattle.block.specs.Block.{blockSize}
 use Rattle.card.specs.Archive.{blockAt, tableIn}
@@ -79,7 +79,7 @@ pub data CallsFor (s : List ℕ) (entries room : ℕ) : ℕ → ℕ → Type 0 w
   incomplete : (k : ℕ) → WholeCard s k → Room s k entries room → ((n : ℕ) → Complete s k n → ⊥) → CallsFor s entries room 14 0
   -- "then the table's own"
   table : (k n : ℕ) (a : List ℕ) {number place : ℕ} → WholeCard s k → Room s k entries room → Complete s k n → Ordered s k n a
-      → Refuses (tableFault (tableIn a)) number place → CallsFor s entries room number place
+      → TableCallsFor (tableIn a) number place → CallsFor s entries room number place
 
 -- ---- the two agree
 

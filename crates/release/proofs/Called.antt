@@ -15,7 +15,8 @@ use Rattle.table.specs.Faults.{Refuses, _then_, unless, firstFault}
 use Rattle.table.specs.Empty.{emptyTable}
 use Rattle.table.specs.Answers.{orTable}
 use Rattle.table.specs.Rules.{tableFault}
-use Rattle.table.proofs.FirstDecides.{two-decide, many-decide}
+use Rattle.table.proofs.FirstDecides.{two-decide, many-decide, rule-is, is-rule, fails, failing}
+use Rattle.table.proofs.Called.{refused-as-called as table-refused, number-few}
 use Rattle.table.proofs.FirstLaws.{first-fine, each-fine}
 use Rattle.table.proofs.RuleLaws.{unless-fine}
 use Rattle.table.proofs.Acceptance.{fine-accepted, accepted-fine}
@@ -24,7 +25,6 @@ use Rattle.card.specs.Archive.{blockAt, blocksIn, isLength, agrees, blockFault,
 use Rattle.release.specs.Refusals.{Whole, GoodBlock, InPlace, FirstGood, CallsFor, bad-length, bad-block, mismatch, table, RefusedAsCalled}
 use Rattle.release.proofs.GoodLaws.{good-is, is-good, agrees-is, is-agreed}
 use Rattle.release.proofs.Parts.{whole-blocks, whole-is, is-whole, block-good, block-fine, answer-is, fine-kept, kept-fine}
-use Rattle.release.proofs.Rules.{rule-is, is-rule, fails, failing, Other, other-table}
 
 -- ---- a block
 
@@ -56,7 +56,7 @@ refused-calls a k p x = go (two-decide (unless (isLength (length a)) BadLength 0
     later w (inl y) =
         let f = many-decide (blocksIn a) (blockFaultAt a) k p .0 y in
         block-calls a w (f .0) (f .1) (λ j l. block-good a j (f .3 j l)) k p (f .2)
-    later w (inr y) = table (blocksIn a) w (λ j l. block-good a j (each-fine (blocksIn a) (blockFaultAt a) (y .0) j l)) (y .1)
+    later w (inr y) = table (blocksIn a) w (λ j l. block-good a j (each-fine (blocksIn a) (blockFaultAt a) (y .0) j l)) (table-refused .refused (tableIn a) k p .0 (y .1))
 
     go : Refuses (unless (isLength (length a)) BadLength 0) k p ⊎ ((unless (isLength (length a)) BadLength 0 ≡ Fine) × Refuses (blocks then tableFault (tableIn a)) k p) → CallsFor a k p
     go (inl y) =
@@ -100,18 +100,19 @@ calls-refused a _ _ (mismatch n i w h before g x) =
     block-given a (rw e at w) i 14 (i + 1) (rw e at h) (rw e at before) (mismatch-given a (rw e at w) i g (rw e at x))
 calls-refused a k p (table n w all x) =
     let e = sym (whole-blocks w) in
-    table-given a (rw e at w) k p (rw e at all) x
+    table-given a (rw e at w) k p (rw e at all) (table-refused .refused (tableIn a) k p .1 x)
 
 -- ---- neither 8 nor 9
 
 other-calls : (a : List ℕ) (k p : ℕ) → CallsFor a k p → (k ≡ 8 → ⊥) × (k ≡ 9 → ⊥)
-unfolding tableIn Other
+unfolding tableIn
 other-calls a _ _ (bad-length n) = (λ e. omega arith, λ e. omega arith)
 other-calls a _ _ (bad-block n i w h before x) = (λ e. omega arith, λ e. omega arith)
 other-calls a _ _ (mismatch n i w h before g x) = (λ e. omega arith, λ e. omega arith)
 other-calls a k p (table n w all x) =
     let e = whole-blocks w in
-    other-table (tableIn a) (rw e (w .least)) (rw e (w .most)) k p x
+    let few = number-few {t = tableIn a} (rw e (w .least), rw e (w .most)) x in
+    (λ e. omega arith, λ e. omega arith)
 
 -- a refused reading gives no table
 pub archive-empty : (a : List ℕ) (r : Refusal) → readArchive a .answer ≡ Refused r → readArchive a .table ≡ emptyTable

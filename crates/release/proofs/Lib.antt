@@ -7,7 +7,6 @@
 --   Undo         reads-back, writes-again, same-archive, one-archive, passes-check
 --   Changed      one byte changed changes the check
 --   Noticed      an accepted archive with one byte changed is refused
---   Rules        what one rule's refusal says; the rules of a table of 1 to 32 tasks refuse with neither 8 nor 9
 --   Called       an archive is refused exactly as it calls for, and then gives no table
 --   CasesHold    the cases, computed
 pub mod NumberBack
@@ -18,6 +17,5 @@ pub mod Parts
 pub mod Undo
 pub mod Changed
 pub mod Noticed
-pub mod Rules
 pub mod Called
 pub mod CasesHold

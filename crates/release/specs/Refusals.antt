@@ -8,8 +8,8 @@ use Rattle.basics.specs.Exactly.{_exactly-if_}
 use Rattle.table.specs.declared.Checked.the-variants.{Fine}
 use Rattle.table.specs.Limits.{maxTasks}
 use Rattle.table.specs.Faults.{Refuses}
-use Rattle.table.specs.Rules.{tableFault}
 use Rattle.table.specs.Accepted.{Accepted}
+use Rattle.table.specs.Refusals.{CallsFor as TableCallsFor}
 use Rattle.checksum.specs.Sum.{checkOf}
 use Rattle.block.specs.Numbers.{byteAt, numberAt}
 use Rattle.block.specs.Block.{blockSize}
@@ -49,7 +49,7 @@ pub data CallsFor (a : List ℕ) : ℕ → ℕ → Type 0 where
   -- "then 14"
   mismatch : (n i : ℕ) → Whole a n → i < n → FirstGood a n i → GoodBlock (blockAt a i) → (InPlace a n i → ⊥) → CallsFor a 14 (i + 1)
   -- "then the table's own, with document 01's places"
-  table : (n : ℕ) {number place : ℕ} → Whole a n → FirstGood a n n → Refuses (tableFault (tableIn a)) number place → CallsFor a number place
+  table : (n : ℕ) {number place : ℕ} → Whole a n → FirstGood a n n → TableCallsFor (tableIn a) number place → CallsFor a number place
 
 -- ---- the two agree
 

@@ -26,10 +26,14 @@ pub record GoodPair (p : Pair) : Type 0 where
   pub total-product : p .total ≤ p .requests * p .longest
   pub total-most : p .total ≤ maxTime
 
-pub record GoodTask (x : Task) : Type 0 where
+-- a task, as far as its first n resources: its times, each pair, and the sum of their CT
+pub record GoodTo (x : Task) (n : ℕ) : Type 0 where
   pub times : GoodTimes (x .period) (x .run) (x .deadline)
-  pub pair : (k : ℕ) → k < maxResources → (pairOf x k ≡ unusedPair) ⊎ GoodPair (pairOf x k)
-  pub totals : sumTo maxResources (totalOf x) ≤ x .run
+  pub pair : (k : ℕ) → k < n → (pairOf x k ≡ unusedPair) ⊎ GoodPair (pairOf x k)
+  pub totals : sumTo n (totalOf x) ≤ x .run
+
+abbrev pub GoodTask : Task → Type 0
+GoodTask x = GoodTo x maxResources
 
 pub record Accepted (t : Table) : Type 0 where
   pub tasks-least : 1 ≤ t .n

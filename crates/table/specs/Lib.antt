@@ -5,6 +5,7 @@
 --   Faults     "Refusals by number": the number of each, and how the first decides
 --   Rules      the rules 4, 5 and 7, and "A table handed over directly is checked too"
 --   Accepted   "Quantities" as bounds: what an accepted table holds
+--   Refusals   with which number, and at which place, a table is refused, said a second way
 --   Answers    what a reader and a writer of a table answer
 --   Cleared    a table with zeros past the nth task
 --   Cases      tables and what the check says of them, computed
@@ -14,6 +15,7 @@ pub mod At
 pub mod Faults
 pub mod Rules
 pub mod Accepted
+pub mod Refusals
 pub mod Answers
 pub mod Cleared
 pub mod Cases

@@ -1,0 +1,117 @@
+-- A refusal is given exactly when it is called for (specs/Refusals.antt).
+-- Assumes nothing.
+use Prim.Native.Nat.{ℕ, _*_, _<_}
+use mathlib.Core.Path.{_≡_}
+use mathlib.Core.Bool.{false}
+use mathlib.Core.Logic.{_⊎_, inl, inr}
+use native.Mathlib.Decide.{decLt}
+use native.Mathlib.Omega.{arith}
+use borrow.Author.Tests.{leb-true, le-leb, lt-leb}
+use lib.ListN.{length}
+use lib.Dec.{leb}
+use Rattle.basics.specs.Choice.{within}
+use Rattle.basics.proofs.ChoiceLaws.{within-low, within-high}
+use Rattle.table.specs.declared.Level.{Level}
+use Rattle.table.specs.declared.Table.{Table}
+use Rattle.table.specs.declared.Fault.the-variants.{UnknownTask, TooShort, NoRounds}
+use Rattle.table.specs.Faults.{Refuses, _then_, unless}
+use Rattle.table.specs.Rules.{tableFault}
+use Rattle.table.specs.Refusals.{CallsFor}
+use Rattle.table.proofs.FirstDecides.{one-number, is-rule, from-rule, from-two, by-first, fails}
+use Rattle.table.proofs.RuleFacts.{range-is}
+use Rattle.table.proofs.RuleLaws.{unless-fine}
+use Rattle.table.proofs.Acceptance.{fine-accepted, accepted-fine}
+use Rattle.table.proofs.Called.{refused-as-called as table-refused}
+use Rattle.meaning.proofs.ListingRefusals.{refused-as-called as listing-refused}
+use Rattle.writing.specs.Write.{textOf, writeFault}
+use Rattle.block.specs.Block.{blockSize}
+use Rattle.card.specs.Archive.{archivingFault}
+use Rattle.release.proofs.Called.{refused-as-called as archive-refused}
+use Rattle.recovery.proofs.Called.{salvaged-as-called}
+use Rattle.analysis.specs.Answers.{boundFault, analysisFault}
+use Rattle.promises.specs.Refusals.{BoundCallsFor, RowCallsFor, OutputCallsFor, FirstDecides}
+
+module _ (t : Table) {k p : ℕ} where
+  called : Refuses (tableFault t) k p → CallsFor t k p
+  called = table-refused .refused t k p .0
+
+  given : CallsFor t k p → Refuses (tableFault t) k p
+  given = table-refused .refused t k p .1
+
+-- a task that is not one of 1 to n
+outside : (n i : ℕ) → within 1 n i ≡ false → (i ≡ 0) ⊎ (n < i)
+outside n i e = go (decLt i 1) (decLt n i)
+  where
+    go : Dec (i < 1) → Dec (n < i) → (i ≡ 0) ⊎ (n < i)
+    go (yes h) d = inl (omega arith)
+    go (no h) (yes k) = inr k
+    go (no h) (no k) = absurd (fails _ (range-is 1 n i .1) e (omega arith, omega arith))
+
+outside-fails : (n i : ℕ) → (i ≡ 0) ⊎ (n < i) → within 1 n i ≡ false
+outside-fails n i (inl e) = within-low 1 n i (omega arith)
+outside-fails n i (inr h) = within-high 1 n i h
+
+-- ---- a task
+
+module _ (t : Table) (i : Level) (allowance : ℕ) where
+  bound-called : (k p : ℕ) → Refuses (boundFault t i allowance) k p → BoundCallsFor t i allowance k p
+  unfolding boundFault
+  bound-called k p =
+      from-two (tableFault t) _ k p (λ x. BoundCallsFor.own (called t x))
+      (λ a. from-two (unless (within 1 (t .n) (i .0)) UnknownTask 0) (unless (leb 1 allowance) NoRounds 0) k p
+      (from-rule (BoundCallsFor t i allowance) (within 1 (t .n) (i .0)) UnknownTask 0 k p (λ e. BoundCallsFor.unknown-task (fine-accepted t a) (outside (t .n) (i .0) e)))
+      (λ b. from-rule (BoundCallsFor t i allowance) (leb 1 allowance) NoRounds 0 k p
+      (λ e. BoundCallsFor.no-rounds (fine-accepted t a) (range-is 1 (t .n) (i .0) .0 (unless-fine _ UnknownTask 0 b)) (omega (arith, fails _ (le-leb 1 allowance) e)))))
+
+  bound-given : {k p : ℕ} → BoundCallsFor t i allowance k p → Refuses (boundFault t i allowance) k p
+  unfolding boundFault
+  bound-given (BoundCallsFor.own x) = by-first (tableFault t) _ _ _ (given t x)
+  bound-given (BoundCallsFor.unknown-task a h) = rw (accepted-fine t a) (by-first _ _ 10 0 (is-rule _ UnknownTask 0 (outside-fails (t .n) (i .0) h)))
+  bound-given (BoundCallsFor.no-rounds a r e) =
+      rw (accepted-fine t a, range-is 1 (t .n) (i .0) .1 r) (is-rule _ NoRounds 0 (lt-leb 1 allowance (omega arith)))
+
+-- ---- a row
+
+module _ (t : Table) (allowance room : ℕ) where
+  row-called : (k p : ℕ) → Refuses (analysisFault t allowance room) k p → RowCallsFor t allowance room k p
+  unfolding analysisFault
+  row-called k p =
+      from-two (tableFault t) _ k p (λ x. RowCallsFor.own (called t x))
+      (λ a. from-two (unless (leb 1 allowance) NoRounds 0) (unless (leb (t .n) room) TooShort 0) k p
+      (from-rule (RowCallsFor t allowance room) (leb 1 allowance) NoRounds 0 k p (λ e. RowCallsFor.no-rounds (fine-accepted t a) (omega (arith, fails _ (le-leb 1 allowance) e))))
+      (λ b. from-rule (RowCallsFor t allowance room) (leb (t .n) room) TooShort 0 k p
+      (λ e. RowCallsFor.too-short (fine-accepted t a) (leb-true 1 allowance (unless-fine _ NoRounds 0 b)) (omega (arith, fails _ (le-leb (t .n) room) e)))))
+
+  row-given : {k p : ℕ} → RowCallsFor t allowance room k p → Refuses (analysisFault t allowance room) k p
+  unfolding analysisFault
+  row-given (RowCallsFor.own x) = by-first (tableFault t) _ _ _ (given t x)
+  row-given (RowCallsFor.no-rounds a e) = rw (accepted-fine t a) (by-first _ _ 16 0 (is-rule _ NoRounds 0 (lt-leb 1 allowance (omega arith))))
+  row-given (RowCallsFor.too-short a h l) = rw (accepted-fine t a, le-leb 1 allowance h) (is-rule _ TooShort 0 (lt-leb (t .n) room l))
+
+-- ---- an output
+
+module _ (t : Table) (needed room : ℕ) where
+  output-called : (k p : ℕ) → Refuses (tableFault t then unless (leb needed room) TooShort 0) k p → OutputCallsFor t needed room k p
+  output-called k p =
+      from-two (tableFault t) _ k p (λ x. OutputCallsFor.own (called t x))
+      (λ a. from-rule (OutputCallsFor t needed room) (leb needed room) TooShort 0 k p
+      (λ e. OutputCallsFor.too-short (fine-accepted t a) (omega (arith, fails _ (le-leb needed room) e))))
+
+  output-given : {k p : ℕ} → OutputCallsFor t needed room k p → Refuses (tableFault t then unless (leb needed room) TooShort 0) k p
+  output-given (OutputCallsFor.own x) = by-first (tableFault t) _ _ _ (given t x)
+  output-given (OutputCallsFor.too-short a h) = rw (accepted-fine t a) (is-rule _ TooShort 0 (lt-leb needed room h))
+
+pub first-decides : FirstDecides
+unfolding writeFault archivingFault
+first-decides =
+    record {
+      numbers = one-number;
+      table = table-refused;
+      listing = listing-refused;
+      card = archive-refused;
+      salvage = salvaged-as-called;
+      bound = λ t i allowance k p. (bound-called t i allowance k p, bound-given t i allowance);
+      row = λ t allowance room k p. (row-called t allowance room k p, row-given t allowance room);
+      output = λ t room k p. (output-called t (length (textOf t)) room k p, output-given t (length (textOf t)) room);
+      archiving = λ t room k p. (output-called t (blockSize * t .n) room k p, output-given t (blockSize * t .n) room);
+    }

@@ -1,0 +1,66 @@
+-- Demand 1: a refusal is given, with its number and place, exactly when its rule is the first that fails (`Refuses c k p`: the check c refuses with the number k, at the place p).
+-- What is called for is said case by case, by bounds and not by the tests that decide: of a table in `table/specs/Refusals`, and here of what is asked after the table's own.
+use Prim.Native.Nat.{ℕ, _*_, _≤_, _<_}
+use mathlib.Core.Path.{_≡_}
+use mathlib.Core.Logic.{_⊎_}
+use lib.ListN.{length}
+use Rattle.basics.specs.Exactly.{_exactly-if_}
+use Rattle.table.specs.declared.Level.{Level}
+use Rattle.table.specs.declared.Fault.{Fault}
+use Rattle.table.specs.declared.Table.{Table}
+use Rattle.table.specs.Faults.{numberOf, Refuses}
+use Rattle.table.specs.Accepted.{Accepted}
+use Rattle.table.specs.Refusals.{InRange, CallsFor, RefusedAsCalled}
+use Rattle.meaning.specs.Refusals.{RefusedAsCalled as ListingRefusedAsCalled}
+use Rattle.writing.specs.Write.{textOf, writeFault}
+use Rattle.block.specs.Block.{blockSize}
+use Rattle.card.specs.Archive.{archivingFault}
+use Rattle.release.specs.Refusals.{RefusedAsCalled as CardRefusedAsCalled}
+use Rattle.recovery.specs.Refusals.{SalvagedAsCalled}
+use Rattle.analysis.specs.Answers.{boundFault, analysisFault}
+
+-- ---- "10 and 11 come after these, in that order, with place 0", and 16 "after 10 and before 11"
+
+-- of a task that is asked about, with an allowance of rounds
+pub data BoundCallsFor (t : Table) (i : Level) (allowance : ℕ) : ℕ → ℕ → Type 0 where
+  own : {number place : ℕ} → CallsFor t number place → BoundCallsFor t i allowance number place
+  -- "the task asked about is 0 or above n"
+  unknown-task : Accepted t → (i .0 ≡ 0) ⊎ (t .n < i .0) → BoundCallsFor t i allowance 10 0
+  -- "allowance 0"
+  no-rounds : Accepted t → InRange 1 (t .n) (i .0) → allowance ≡ 0 → BoundCallsFor t i allowance 16 0
+
+-- of a row with room for so many records
+pub data RowCallsFor (t : Table) (allowance room : ℕ) : ℕ → ℕ → Type 0 where
+  own : {number place : ℕ} → CallsFor t number place → RowCallsFor t allowance room number place
+  no-rounds : Accepted t → allowance ≡ 0 → RowCallsFor t allowance room 16 0
+  -- "the row has fewer than n records"
+  too-short : Accepted t → 1 ≤ allowance → room < t .n → RowCallsFor t allowance room 11 0
+
+-- of an output with room for so many bytes, where so many are to be written
+pub data OutputCallsFor (t : Table) (needed room : ℕ) : ℕ → ℕ → Type 0 where
+  own : {number place : ℕ} → CallsFor t number place → OutputCallsFor t needed room number place
+  -- "the output is shorter than the text needs"
+  too-short : Accepted t → room < needed → OutputCallsFor t needed room 11 0
+
+-- ---- refused exactly if it is called for
+
+pub record FirstDecides : Type 0 where
+  -- no two refusals have one number
+  pub numbers : (a b : Fault) → numberOf a ≡ numberOf b → a ≡ b
+  -- a table that is handed over
+  pub table : RefusedAsCalled
+  -- a listing, and a line of it
+  pub listing : ListingRefusedAsCalled
+  -- an archive: 12, 13 and 14, and then the table's own
+  pub card : CardRefusedAsCalled
+  -- a card with bad blocks: 15, 11 and 14, and then the table's own; and what becomes of each block
+  pub salvage : SalvagedAsCalled
+  -- after the table's own: of a task, of a row, and of an output, be it for a listing or for an archive
+  pub bound : (t : Table) (i : Level) (allowance number place : ℕ)
+      → Refuses (boundFault t i allowance) number place exactly-if BoundCallsFor t i allowance number place
+  pub row : (t : Table) (allowance room number place : ℕ)
+      → Refuses (analysisFault t allowance room) number place exactly-if RowCallsFor t allowance room number place
+  pub output : (t : Table) (room number place : ℕ)
+      → Refuses (writeFault t room) number place exactly-if OutputCallsFor t (length (textOf t)) room number place
+  pub archiving : (t : Table) (room number place : ℕ)
+      → Refuses (archivingFault t room) number place exactly-if OutputCallsFor t (blockSize * t .n) room number place
