@@ -11,18 +11,13 @@ use Rattle.table.specs.declared.Resource.{Resource}
 use Rattle.table.specs.Limits.{maxCpus, maxTasks, maxResources}
 use Rattle.table.specs.Accepted.{GoodTimes, GoodPair}
 use Rattle.field.specs.declared.Field.{Field}
-use Rattle.field.specs.declared.Field.the-variants.{Value}
 use Rattle.field.specs.declared.Rounding.the-variants.{Down, Up}
 use Rattle.line.specs.declared.Past.{Past}
 use Rattle.line.specs.declared.Said.{Said}
 use Rattle.line.specs.declared.Said.the-variants.{Cpus, Task as TaskLine, Use, Not}
 use Rattle.line.specs.Fields.{form}
 use Rattle.line.specs.Line.{countIn, timeIn}
-
--- a field that states a number
-pub record Stated (f : Field) (v : ℕ) : Type 0 where
-  pub width : ℕ
-  pub is : f ≡ Value v width
+use Rattle.line.proofs.StatedLaws.{Stated}
 
 -- ---- each kind of line, by its rules
 

@@ -21,19 +21,15 @@ use Rattle.table.specs.Rules.{timesFault, usedInRange, totalsFit}
 use Rattle.table.proofs.FirstLaws.{then-fine}
 use Rattle.table.proofs.RuleLaws.{unless-fine, times-good, used-good}
 use Rattle.field.specs.declared.Field.{Field}
-use Rattle.field.specs.declared.Field.the-variants.{Value, Bad}
 use Rattle.line.specs.declared.Past.{Past}
 use Rattle.line.specs.declared.Said.{Said}
 use Rattle.line.specs.declared.Said.the-variants.{Cpus, Task as TaskLine, Use, Not}
 use Rattle.line.specs.Fields.{form}
 use Rattle.line.specs.Line.{formed, value, _gives_, cpusLine, taskLine, useLine, lineSays}
-use Rattle.line.proofs.LineRules.{Stated, CpusRules, TaskRules, UseRules, Line, is-cpus, is-task, is-use, is-not}
+use Rattle.line.proofs.StatedLaws.{formed-states}
+use Rattle.line.proofs.LineRules.{CpusRules, TaskRules, UseRules, Line, is-cpus, is-task, is-use, is-not}
 
 -- ---- from what is said to the rules
-
-formed-states : (f : Field) → formed f ≡ true → Stated f (value f)
-formed-states (Value v w) e = record { width = w; is = refl }
-formed-states Bad e = let z : _≡_ {A = Bool} true false = cc in record { width = 0; is = cc }
 
 -- a check that is followed by what the line says
 given : (x : Checked) (y : Said) (P : Said → Type 0) → (x ≡ Fine → P y) → ((r : Refusal) → P (Not r)) → P (x gives y)

@@ -18,7 +18,7 @@ use Rattle.table.specs.Limits.{maxTasks, maxResources}
 use Rattle.table.specs.Empty.{unusedPair}
 use Rattle.table.specs.At.{noTask, totalOf}
 use Rattle.table.specs.Accepted.{GoodPair, GoodTask, Accepted}
-use Rattle.meaning.specs.Figures.{UseFigures, TaskFigures, Figures, GoodUses, GoodTaskFigures, GoodTasks, GoodFigures, pairIn, useFor, pairFor, taskOf, taskFor, tableOf}
+use Rattle.meaning.specs.Figures.{UseFigures, TaskFigures, Figures, GoodUses, GoodTaskFigures, GoodTasks, GoodFigures, heldPair, useFor, pairFor, taskOf, taskFor, tableOf}
 use Rattle.basics.proofs.RowLaws.{row-at}
 
 good-pair : {C last sum : ℕ} {us : List UseFigures} (k : ℕ) → GoodUses C last sum us → (pairFor us k ≡ unusedPair) ⊎ GoodPair (pairFor us k)
@@ -26,7 +26,7 @@ good-pair k GoodUses.no-use = inl refl
 good-pair k (GoodUses.one-use {u = u} {us = us} a b g f r) = go (eqb (u .K) (suc k)) (good-pair k r)
   where
     go : (t : Bool) → (pairFor us k ≡ unusedPair) ⊎ GoodPair (pairFor us k)
-        → let p = pairIn (pick t u (useFor us k)) in (p ≡ unusedPair) ⊎ GoodPair p
+        → let p = heldPair (pick t u (useFor us k)) in (p ≡ unusedPair) ⊎ GoodPair p
     go true ih = inr g
     go false ih = ih
 
@@ -90,8 +90,8 @@ unfolding tableOf
 good-table f g =
     record {
       tasks-least = g .tasks-least;
-      tasks-most = g .tasks-most;
-      cpus-least = g .cpus-least;
-      cpus-most = g .cpus-most;
-      task = λ i h. rw (row-at maxTasks i (taskFor (f .tasks)) noTask (omega (arith, g .tasks-most))) (good-tasks i (g .tasks) h);
+      tasks-most = g .so-far .tasks-most;
+      cpus-least = g .so-far .cpus-least;
+      cpus-most = g .so-far .cpus-most;
+      task = λ i h. rw (row-at maxTasks i (taskFor (f .tasks)) noTask (omega (arith, g .so-far .tasks-most))) (good-tasks i (g .so-far .tasks) h);
     }

@@ -1,110 +1,121 @@
--- A listing is refused with the number and at the place that the paper's table calls for (specs/Refusals.antt).
+-- A listing is refused with the number and at the place that it calls for (specs/Refusals.antt).
 -- Assumes nothing.
-use Prim.Native.Nat.{ℕ, suc, _≤_, _<_}
-use mathlib.Core.Path.{_≡_, refl}
-use mathlib.Core.Bool.{Bool, true, false}
-use mathlib.Core.List.{List, []}
+use Prim.Native.Nat.{ℕ, _+_, _≤_, _<_}
+use mathlib.Core.Path.{_≡_, refl, sym, ap, _∙_}
+use mathlib.Core.Bool.{true}
+use mathlib.Core.List.{List, [], _∷_, _++_, append-nil}
 use mathlib.Core.Logic.{_⊎_, inl, inr}
 use native.Mathlib.Omega.{arith}
-use native.Mathlib.Nat.{le-refl}
 use native.Mathlib.Decide.{decLt}
-use lib.ListN.{length, getD}
-use lib.Seq.{drop-cons, drop-length}
-use lib.Dec.{ltb}
-use borrow.Author.Tests.{le-leb, lt-leb, ltb-false}
+use lib.ListN.{length}
+use borrow.Author.Tests.{le-leb, lt-leb, lt-ltb}
 use Rattle.table.specs.declared.Table.{Table}
-use Rattle.table.specs.declared.Refusal.{Refusal}
 use Rattle.table.specs.declared.Fault.{Fault}
 use Rattle.table.specs.declared.Fault.the-variants.{TooLong, BadForm, NoTask}
 use Rattle.table.specs.declared.Checked.{Checked}
 use Rattle.table.specs.declared.Checked.the-variants.{Fine, Refused}
+use Rattle.table.specs.declared.Reading.{Reading}
 use Rattle.table.specs.Limits.{maxListing}
+use Rattle.table.specs.Empty.{emptyTable}
 use Rattle.table.specs.Faults.{numberOf, Refuses}
-use Rattle.line.specs.declared.Said.the-variants.{Not}
-use Rattle.listing.specs.Lines.{lines, endsInLF}
-use Rattle.listing.specs.Read.{readEnd, readLines, readListing}
-use Rattle.meaning.specs.Refusals.{pastTo, saidAt, Say, EndsInLF, CallsFor, too-long, at-line, not-ended, no-task, RefusedAsCalled}
-use Rattle.meaning.proofs.LineRefusals.{line-agrees}
-use Rattle.meaning.proofs.ReadTo.{ended, ended-ends, ends-ended, none-zero, zero-none, Stops, first-stop, read-to}
-
--- ---- what is answered at a line, and at the end
-
--- the tasks that all lines leave
-abbrev tasksIn : List ℕ → ℕ
-tasksIn s = pastTo (lines s) (length (lines s)) .tasks
-
-module _ (s : List ℕ) (l : length s ≤ maxListing) where
-  at-not : (k : ℕ) (r : Refusal) → k < length (lines s) → Say s k → saidAt s k ≡ Not r → readListing s .answer ≡ Refused r
-  unfolding readListing readLines
-  at-not k r m h e = rw (le-leb (length s) maxListing l, read-to s (endsInLF true s) k (omega arith) h .1, drop-cons (lines s) k [] m, e)
-
-  at-end : (x : Checked) → Say s (length (lines s))
-      → ((t : Table) → readEnd t (pastTo (lines s) (length (lines s))) (suc (length (lines s))) (endsInLF true s) .answer ≡ x) → readListing s .answer ≡ x
-  unfolding readListing readLines
-  at-end x h e = rw (le-leb (length s) maxListing l, read-to s (endsInLF true s) (length (lines s)) (le-refl _) h .1, drop-length (lines s)) (e _)
+use Rattle.line.specs.Stated.{no-byte, one-byte}
+use Rattle.line.proofs.Called.{line-refused}
+use Rattle.listing.specs.Read.{fresh, readEnd, readListing}
+use Rattle.meaning.specs.Figures.{TaskFigures, tableOf}
+use Rattle.meaning.specs.Refusals.{leftBy, linesOf, Before, no-line, some-lines, CallsFor, RefusedAsCalled}
+use Rattle.meaning.proofs.SplitLaws.{open-end}
+use Rattle.meaning.proofs.StatesRead.{readText}
+use Rattle.meaning.proofs.ReadStates.{Stops, at-end, at-line}
+use Rattle.meaning.proofs.Listed.{Listed, stops-first, stops-later, listed-to, figures-read, stop-line, stop-end}
 
 -- ---- from what is called for to the answer
 
-abbrev Answered : List ℕ → ℕ → ℕ → Type 0
-Answered s number place = Refuses (readListing s .answer) number place
+-- what stands before a line is read, and the reading goes on there
+before-read : {s : List ℕ} {n : ℕ} {xs : List TaskFigures} (left : List ℕ) → Before s n xs
+    → (t : Table) × (readText emptyTable (fresh 0 0) 1 (s ++ left) ≡ readText t (leftBy xs) n left)
+before-read left no-line = (emptyTable, refl)
+before-read left (some-lines {f = f} a g) = (tableOf f, figures-read left a g)
 
-tells : (s : List ℕ) (f : Fault) (place : ℕ) → readListing s .answer ≡ Refused (record { fault = f; place = place }) → Answered s (numberOf f) place
+module _ (s : List ℕ) (l : length s ≤ maxListing) where
+  text-read : readListing s ≡ readText emptyTable (fresh 0 0) 1 s
+  unfolding readListing
+  text-read = rw (le-leb (length s) maxListing l)
+
+  -- where it goes on with what is left, the answer is what is answered there
+  goes-on : {before : List ℕ} {n : ℕ} {xs : List TaskFigures} (left : List ℕ) (x : Checked) → s ≡ before ++ left → Before before n xs
+      → ((t : Table) → readText t (leftBy xs) n left .answer ≡ x) → readListing s .answer ≡ x
+  goes-on left x e b h =
+      let r = before-read left b in
+      ap (λ (y : Reading). y .answer) (text-read ∙ ap (readText emptyTable (fresh 0 0) 1) e ∙ r .1) ∙ h (r .0)
+
+tells : (s : List ℕ) (f : Fault) (place : ℕ) → readListing s .answer ≡ Refused (record { fault = f; place = place }) → Refuses (readListing s .answer) (numberOf f) place
 tells s f place e = (_, e, record { number = refl; place = refl })
 
-not-closed : (s : List ℕ) → (EndsInLF s → ⊥) → ended s ≡ false
-not-closed s h = go (ended s) (ended-ends s)
-  where
-    go : (b : Bool) → (b ≡ true → EndsInLF s) → b ≡ false
-    go true f = absurd (h (f refl))
-    go false f = refl
-
-answered : {s : List ℕ} {number place : ℕ} → CallsFor s number place → Answered s number place
+answered : (s : List ℕ) {number place : ℕ} → CallsFor s number place → Refuses (readListing s .answer) number place
 unfolding readListing readEnd
-answered {s} (too-long l) = tells s TooLong 0 (rw (lt-leb (length s) maxListing l))
-answered {s} (at-line k {number = i} l m h f) =
-    let a = line-agrees (pastTo (lines s) k) (suc k) (getD (lines s) k []) i (suc k) .1 (f, refl) in
-    (a .0, at-not s l k (a .0) m h (a .1), a .2)
-answered {s} (not-ended l h f) = tells s BadForm _ (at-end s l _ h (λ t. rw (not-closed s f)))
-answered {s} (no-task l h e f) =
-    let z : tasksIn s ≡ 0 = none-zero s (length (lines s)) (λ k m T C D. f k T C D m) in
-    tells s NoTask 2 (at-end s l _ h (λ t. rw (ends-ended s e, z)))
+answered s (CallsFor.too-long l) = tells s TooLong 0 (rw (lt-leb (length s) maxListing l))
+answered s (CallsFor.at-line before l rest {n} {number} {tasks = xs} m e w b c) =
+    let x = line-refused (leftBy xs) n l number n w .1 (c, refl) in
+    (x .0, goes-on s m (l ++ (10 ∷ rest)) (Refused (x .0)) e b (λ t. stop-line t (leftBy xs) n rest (x .0) w (x .1)), x .2)
+answered s (CallsFor.not-ended before l {n} {tasks = xs} m e w h b) =
+    tells s BadForm n (goes-on s m l _ e b (λ t. ap (λ (y : Reading). y .answer) (stop-end t (leftBy xs) n w) ∙ rw (open-end w h true)))
+answered s (CallsFor.empty e) = tells s BadForm 1 (rw e (ap (λ (y : Reading). y .answer) (stop-end emptyTable (fresh 0 0) 1 no-byte)))
+answered s (CallsFor.no-task m b) =
+    tells s NoTask 2 (goes-on s m [] _ (sym (append-nil s)) b (λ t. ap (λ (y : Reading). y .answer) (stop-end t (leftBy []) 2 no-byte)))
 
 -- ---- from the answer to what is called for
 
 abbrev Called : List ℕ → Type 0
 Called s = (number place : ℕ) × CallsFor s number place
 
-end-called : (s : List ℕ) → length s ≤ maxListing → Say s (length (lines s)) → Called s ⊎ (readListing s .answer ≡ Fine)
-unfolding readEnd
-end-called s l h = go _ refl _ refl
+-- a listing that ends behind its last line calls for 9, or has a task
+end-called : {s : List ℕ} {n : ℕ} {xs : List TaskFigures} → length s ≤ maxListing → Before s n xs → Called s ⊎ ((1 < n) × (1 ≤ length xs))
+end-called l no-line = inl (2, 1, CallsFor.empty refl)
+end-called {s} l (some-lines {f = f} a g) = go (f .tasks) refl
   where
-    go : (a : Bool) → ended s ≡ a → (b : Bool) → ltb 0 (tasksIn s) ≡ b → Called s ⊎ (readListing s .answer ≡ Fine)
-    go false e b f = inl (2, _, not-ended l h (λ x. let z : _≡_ {A = ℕ} 0 1 = cc (ends-ended s x) in omega arith))
-    go true e false f =
-        let z = zero-none s (length (lines s)) (omega (arith, ltb-false 0 (tasksIn s) f)) in
-        inl (9, 2, no-task l h (ended-ends s e) (λ k T C D m. z k m T C D))
-    go true e true f = inr (at-end s l Fine h (λ t. rw (e, f)))
+    go : (xs : List TaskFigures) → f .tasks ≡ xs → Called s ⊎ ((1 < 2 + linesOf (f .tasks)) × (1 ≤ length (f .tasks)))
+    go [] e = let b : Before s (2 + linesOf (f .tasks)) (f .tasks) = some-lines a g in inl (9, 2, CallsFor.no-task l (rw e at b))
+    go (x ∷ xs) e = inr (omega arith, rw e (omega arith))
 
-all-called : (s : List ℕ) → Called s ⊎ (readListing s .answer ≡ Fine)
-all-called s = go (decLt maxListing (length s)) (first-stop s (length (lines s)))
-  where
-    go : Dec (maxListing < length s) → Stops s (length (lines s)) ⊎ Say s (length (lines s)) → Called s ⊎ (readListing s .answer ≡ Fine)
-    go (yes l) x = inl (1, 0, too-long l)
-    go (no l) (inl (k, m, h, r, e)) =
-        let b = line-agrees (pastTo (lines s) k) (suc k) (getD (lines s) k []) _ _ .0 (r, e, record { number = refl; place = refl }) in
-        inl (_, _, at-line k (omega arith) m h (b .0))
-    go (no l) (inr h) = end-called s (omega arith) h
+module _ (s : List ℕ) (l : length s ≤ maxListing) where
+  -- where it stops, something is called for, or nothing is said against it
+  stop-called : (before left : List ℕ) {n : ℕ} {xs : List TaskFigures} → s ≡ before ++ left → Before before n xs → Stops (leftBy xs) n left
+      → Called s ⊎ (readListing s .answer ≡ Fine)
+  unfolding readEnd
+  stop-called before left e b (at-line line rest r d w x) =
+      let c = line-refused _ _ line _ _ w .0 (r, x, record { number = refl; place = refl }) in
+      inl (_, _, CallsFor.at-line before line rest l (e ∙ ap (λ (y : List ℕ). before ++ y) d) w b (c .0))
+  stop-called before left e b (at-end (one-byte m r)) = inl (_, _, CallsFor.not-ended before left l e (one-byte m r) (omega arith) b)
+  stop-called before left {n} {xs} e b (at-end no-byte) = go (end-called {xs = xs} l (rw f b))
+    where
+      f : s ≡ before
+      f = e ∙ append-nil before
 
-called : (s : List ℕ) {number place : ℕ} → Answered s number place → CallsFor s number place
-called s {number} {place} (r, e, t) = go (all-called s)
+      go : Called s ⊎ ((1 < n) × (1 ≤ length xs)) → Called s ⊎ (readListing s .answer ≡ Fine)
+      go (inl c) = inl c
+      go (inr h) = inr (goes-on s l [] Fine e b (λ t. ap (λ (y : Reading). y .answer) (stop-end t (leftBy xs) n no-byte) ∙ rw (lt-ltb 1 n (h .0), lt-ltb 0 (length xs) (h .1))))
+
+  all-called : Called s ⊎ (readListing s .answer ≡ Fine)
+  all-called = go (listed-to s)
+    where
+      go : Listed s → Called s ⊎ (readListing s .answer ≡ Fine)
+      go (stops-first x) = stop-called [] s refl no-line x
+      go (stops-later before left f e a g x) = stop-called before left e (some-lines a g) x
+
+called : (s : List ℕ) {number place : ℕ} → Refuses (readListing s .answer) number place → CallsFor s number place
+called s {number} {place} (r, e, t) = go (decLt maxListing (length s))
   where
-    go : Called s ⊎ (readListing s .answer ≡ Fine) → CallsFor s number place
-    go (inl (i, at, c)) =
-        let b = answered c in
+    one : Called s ⊎ (readListing s .answer ≡ Fine) → CallsFor s number place
+    one (inl (i, at, c)) =
+        let b = answered s c in
         let n : i ≡ number = cc in
         let p : at ≡ place = cc in
         rw (← n, ← p) c
-    go (inr f) = let z : _≡_ {A = ℕ} 0 1 = cc in absurd (omega arith)
+    one (inr f) = let z : _≡_ {A = ℕ} 0 1 = cc in absurd (omega arith)
+
+    go : Dec (maxListing < length s) → CallsFor s number place
+    go (yes l) = one (inl (1, 0, CallsFor.too-long l))
+    go (no l) = one (all-called s (omega arith))
 
 pub refused-as-called : RefusedAsCalled
-refused-as-called = record { line = line-agrees; listing = λ s number place. (called s, answered) }
+refused-as-called = record { line = line-refused; listing = λ s number place. (called s, answered s) }

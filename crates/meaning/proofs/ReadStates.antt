@@ -1,147 +1,136 @@
--- From what is read to what is stated.
+-- How far lines state figures: of every text a first part does, after what the lines before it left, and the reading stops behind it.
 -- Assumes nothing.
 use Prim.Native.Nat.{ℕ, _+_, _≤_, _<_}
-use mathlib.Core.Path.{_≡_, refl, sym, ap, _∙_}
-use mathlib.Core.Bool.{Bool, true, false, _&&_}
+use mathlib.Core.Path.{_≡_, refl, _∙_}
+use mathlib.Core.Bool.{true}
 use mathlib.Core.List.{List, [], _∷_, _++_, append-assoc}
 use native.Mathlib.Omega.{arith}
+use native.Mathlib.Nat.{zero-add, add-zero}
 use lib.ListN.{length}
-use lib.Dec.{ltb}
-use borrow.Author.Tests.{ltb-true}
-use Rattle.basics.specs.Choice.{pick}
 use Rattle.basics.specs.Text.{bytes, lineOf}
 use Rattle.table.specs.declared.Pair.{Pair}
-use Rattle.table.specs.declared.Table.{Table}
 use Rattle.table.specs.declared.Resource.{Resource}
 use Rattle.table.specs.declared.Refusal.{Refusal}
-use Rattle.table.specs.declared.Checked.the-variants.{Fine, Refused}
-use Rattle.table.specs.declared.Fault.the-variants.{BadForm, NoTask}
 use Rattle.table.specs.Limits.{maxTasks}
 use Rattle.field.specs.declared.Rounding.the-variants.{Down, Up}
 use Rattle.line.specs.declared.Past.{Past}
 use Rattle.line.specs.declared.Said.{Said}
-use Rattle.line.specs.declared.Said.the-variants.{Task as TaskLine, Use}
-use Rattle.table.specs.declared.Reading.{Reading}
+use Rattle.line.specs.declared.Said.the-variants.{Not}
 use Rattle.line.specs.Fields.{others, form}
-use Rattle.listing.specs.Lines.{lines, endsInLF}
 use Rattle.line.specs.Line.{countIn, timeIn, lineSays}
-use Rattle.table.specs.Answers.{accepted, refused}
-use Rattle.listing.specs.Read.{fresh, pastAfter, tableAfter, onSaid, readEnd, readLines}
-use Rattle.meaning.specs.Figures.{UseFigures, TaskFigures, StatesUses, use-line, StatesTasks, task-line, GoodUses, GoodTasks}
+use Rattle.line.specs.Stated.{Without}
+use Rattle.line.proofs.WordLaws.{listed, form-line}
+use Rattle.line.proofs.StatedLaws.{others-alone, timeOf, count-in, time-in}
 use Rattle.line.proofs.LineRules.{TaskRules, UseRules, Line, is-cpus, is-task, is-use, is-not}
 use Rattle.line.proofs.Says.{line-is}
-use Rattle.meaning.proofs.SplitLaws.{Start, start-of, no-line}
-use Rattle.meaning.proofs.WordLaws.{listed, start-text, count-in, timeOf, time-in}
-use Rattle.meaning.proofs.TableLaws.{storeUses, storeTasks}
+use Rattle.listing.specs.Lines.{lines}
+use Rattle.listing.specs.Read.{fresh}
+use Rattle.meaning.specs.Figures.{UseFigures, TaskFigures, StatesUses, use-line, StatesTasks, task-line, GoodUses, GoodTasks}
+use Rattle.meaning.specs.Refusals.{sumCT, linesOf}
+use Rattle.meaning.proofs.SplitLaws.{Start, start-of, no-line-of, line-text}
+use Rattle.meaning.proofs.StatesRead.{pastUses, pastTasks, past-more}
 
--- ---- from what is read to what is stated
+-- where the reading stops: no line that ends is left, or the next one is refused
+pub data Stops (past : Past) (n : ℕ) (s : List ℕ) : Type 0 where
+  at-end : Without 10 s → Stops past n s
+  at-line : (l rest : List ℕ) (r : Refusal) → s ≡ l ++ (10 ∷ rest) → Without 10 l → lineSays past n l ≡ Not r → Stops past n s
 
--- the text s that is left states these figures, and t becomes u by them
-pub record Stating (past : Past) (s : List ℕ) (t u : Table) : Type 0 where
+-- the text s, from line n on: uses of the last task, tasks, and what is left where the reading stops
+pub record Stating (past : Past) (n : ℕ) (s : List ℕ) : Type 0 where
   pub uses : List UseFigures
   pub tasks : List TaskFigures
   pub first : List ℕ
   pub second : List ℕ
-  pub text : s ≡ first ++ second
+  pub left : List ℕ
+  pub text : s ≡ first ++ (second ++ left)
   pub states-uses : StatesUses first uses
   pub states-tasks : StatesTasks second tasks
   pub good-uses : GoodUses (past .run) (past .last .0) (past .sum) uses
   pub good-tasks : GoodTasks tasks
-  pub some : 1 ≤ past .tasks + length tasks
   pub few : past .tasks + length tasks ≤ maxTasks
-  pub table : u ≡ storeTasks (storeUses t (past .tasks) uses) (past .tasks) tasks
+  pub stops : Stops (pastTasks (pastUses past uses) tasks) (n + (length uses + linesOf tasks)) left
 
-module _ {l s : List ℕ} (a : Start l s) (past : Past) {t u : Table} where
-  task-states : {T C D : ℕ} → form (bytes "task") 4 l ≡ true → TaskRules past (timeIn Down l 1) (timeIn Up l 2) (timeIn Down l 3) T C D
-      → Stating (fresh (past .tasks + 1) C) (a .rest) (tableAfter t (past .tasks) (TaskLine T C D)) u → Stating past s t u
-  task-states {T} {C} {D} f r m =
-      let line = lineOf "task" (listed 3 0 (others l)) in
-      let period = time-in l 0 Down (r .period) in
-      let run = time-in l 1 Up (r .run) in
-      let deadline = time-in l 2 Down (r .deadline) in
+module _ (past : Past) (n : ℕ) {s : List ℕ} (m : past .tasks ≤ maxTasks) where
+  -- nothing is stated, and it stops at once
+  stating-none : Stops past n s → Stating past n s
+  stating-none x =
       record {
         uses = [];
-        tasks = record { T = timeOf period T; C = timeOf run C; D = timeOf deadline D; uses = m .uses } ∷ m .tasks;
+        tasks = [];
         first = [];
-        second = line ++ (m .first ++ m .second);
-        text = start-text a (bytes "task") 3 f ∙ ap (λ (x : List ℕ). line ++ x) (m .text);
+        second = [];
+        left = s;
+        text = refl;
         states-uses = StatesUses.no-use;
-        states-tasks = task-line (period .states) (run .states) (deadline .states) (m .states-uses) (m .states-tasks);
+        states-tasks = StatesTasks.no-task;
         good-uses = GoodUses.no-use;
-        good-tasks = GoodTasks.one-task (record { times = r .times; uses = m .good-uses }) (m .good-tasks);
-        some = omega arith;
-        few = omega (arith, m .few);
-        table = m .table;
+        good-tasks = GoodTasks.no-task;
+        few = omega arith;
+        stops = rw (add-zero n, add-zero (past .sum)) x;
       }
 
-  use-states : {K : Resource} {p : Pair} → form (bytes "use") 5 l ≡ true → UseRules past (countIn l 1) (countIn l 2) (timeIn Up l 3) (timeIn Up l 4) K p
-      → Stating (record { tasks = past .tasks; run = past .run; last = K; sum = past .sum + p .total }) (a .rest) (tableAfter t (past .tasks) (Use K p)) u
-      → Stating past s t u
-  use-states {K} {p} f r m =
-      let line = lineOf "use" (listed 4 0 (others l)) in
-      let longest = time-in l 2 Up (r .longest) in
-      let total = time-in l 3 Up (r .total) in
+  task-states : {l : List ℕ} {ls : List (List ℕ)} {T C D : ℕ} (a : Start s l ls) → form (bytes "task") 4 l ≡ true
+      → TaskRules past (timeIn Down l 1) (timeIn Up l 2) (timeIn Down l 3) T C D → Stating (fresh (past .tasks + 1) C) (n + 1) (a .rest) → Stating past n s
+  task-states {l} {T = T} {C} {D} a f r x =
+      let line = lineOf "task" (listed 3 0 (others l)) in
+      let period = time-in (others-alone l 0) Down (r .period) in
+      let run = time-in (others-alone l 1) Up (r .run) in
+      let deadline = time-in (others-alone l 2) Down (r .deadline) in
+      let y : TaskFigures = record { T = timeOf period T; C = timeOf run C; D = timeOf deadline D; uses = x .uses } in
+      let e : n + 1 + (length (x .uses) + linesOf (x .tasks)) ≡ n + (0 + linesOf (y ∷ x .tasks)) = omega arith in
       record {
-        uses = record { K = K .0; N = p .requests; c = timeOf longest (p .longest); CT = timeOf total (p .total) } ∷ m .uses;
-        tasks = m .tasks;
-        first = line ++ m .first;
-        second = m .second;
-        text = start-text a (bytes "use") 4 f ∙ rw (m .text, append-assoc line (m .first) (m .second));
-        states-uses = use-line (count-in l 0 (r .resource)) (count-in l 1 (r .requests)) (longest .states) (total .states) (m .states-uses);
-        states-tasks = m .states-tasks;
-        good-uses = GoodUses.one-use (r .rising) (r .most) (r .good) (r .fits) (m .good-uses);
-        good-tasks = m .good-tasks;
-        some = m .some;
-        few = m .few;
-        table = m .table;
+        uses = [];
+        tasks = y ∷ x .tasks;
+        first = [];
+        second = line ++ (x .first ++ x .second);
+        left = x .left;
+        text =
+            a .text ∙ line-text (a .rest) (form-line "task" 3 l (a .clean) f)
+            ∙ rw (x .text, append-assoc line (x .first ++ x .second) (x .left), append-assoc (x .first) (x .second) (x .left));
+        states-uses = StatesUses.no-use;
+        states-tasks = task-line {x = y} (record { period = period .states; run = run .states; deadline = deadline .states }) (x .states-uses) (x .states-tasks);
+        good-uses = GoodUses.no-use;
+        good-tasks = GoodTasks.one-task (record { times = r .times; uses = x .good-uses }) (x .good-tasks);
+        few = omega (arith, x .few);
+        stops = rw (← e, ← past-more (past .tasks) y (x .tasks)) (rw (zero-add (sumCT (x .uses))) at (x .stops));
       }
 
-pub refused-not : {r : Refusal} {x : Reading} {u : Table} → x .answer ≡ Refused r → x ≡ accepted u → ⊥
-refused-not {r} d e =
-    let f : Refused r ≡ Fine = sym d ∙ ap (λ (y : Reading). y .answer) e in
-    let z : _≡_ {A = ℕ} 0 1 = cc in
-    omega arith
+  use-states : {l : List ℕ} {ls : List (List ℕ)} {K : Resource} {p : Pair} (a : Start s l ls) → form (bytes "use") 5 l ≡ true
+      → UseRules past (countIn l 1) (countIn l 2) (timeIn Up l 3) (timeIn Up l 4) K p
+      → Stating (record { tasks = past .tasks; run = past .run; last = K; sum = past .sum + p .total }) (n + 1) (a .rest) → Stating past n s
+  use-states {l} {K = K} {p} a f r x =
+      let line = lineOf "use" (listed 4 0 (others l)) in
+      let longest = time-in (others-alone l 2) Up (r .longest) in
+      let total = time-in (others-alone l 3) Up (r .total) in
+      let u : UseFigures = record { K = K .0; N = p .requests; c = timeOf longest (p .longest); CT = timeOf total (p .total) } in
+      let e : n + 1 + (length (x .uses) + linesOf (x .tasks)) ≡ n + (length (u ∷ x .uses) + linesOf (x .tasks)) = omega arith in
+      let d : past .sum + p .total + sumCT (x .uses) ≡ past .sum + (p .total + sumCT (x .uses)) = omega arith in
+      record {
+        uses = u ∷ x .uses;
+        tasks = x .tasks;
+        first = line ++ x .first;
+        second = x .second;
+        left = x .left;
+        text = a .text ∙ line-text (a .rest) (form-line "use" 4 l (a .clean) f) ∙ rw (x .text, append-assoc line (x .first) (x .second ++ x .left));
+        states-uses =
+            use-line {u = u} (record { resource = count-in (others-alone l 0) (r .resource); requests = count-in (others-alone l 1) (r .requests); longest = longest .states; total = total .states })
+            (x .states-uses);
+        states-tasks = x .states-tasks;
+        good-uses = GoodUses.one-use {u = u} (r .rising) (r .most) (r .good) (r .fits) (x .good-uses);
+        good-tasks = x .good-tasks;
+        few = x .few;
+        stops = rw (← e, ← d) (x .stops);
+      }
 
-end-states : (s : List ℕ) (t u : Table) (past : Past) (n : ℕ) → lines s ≡ [] → past .tasks ≤ maxTasks → readEnd t past n (endsInLF true s) ≡ accepted u → Stating past s t u
-unfolding readEnd
-end-states s t u past n e m q = go (endsInLF true s) refl (ltb 1 n) (ltb 0 (past .tasks)) refl q
+pub states-to : (ls : List (List ℕ)) (s : List ℕ) (past : Past) (n : ℕ) → lines s ≡ ls → 1 < n → past .tasks ≤ maxTasks → Stating past n s
+states-to [] s past n e h m = stating-none past n m (at-end (no-line-of s e))
+states-to (l ∷ ls) s past n e h m = go (lineSays past n l) refl (line-is past n l) (λ past k. states-to ls (a .rest) past (n + 1) (a .left) (omega arith) k)
   where
-    go : (c : Bool) → endsInLF true s ≡ c → (l b : Bool) → ltb 0 (past .tasks) ≡ b → pick (c && l) (pick b (accepted t) (refused NoTask 2)) (refused BadForm n) ≡ accepted u
-        → Stating past s t u
-    go true d true true h q =
-        record {
-          uses = [];
-          tasks = [];
-          first = [];
-          second = [];
-          text = no-line true s e d .0;
-          states-uses = StatesUses.no-use;
-          states-tasks = StatesTasks.no-task;
-          good-uses = GoodUses.no-use;
-          good-tasks = GoodTasks.no-task;
-          some = omega (arith, ltb-true 0 (past .tasks) h);
-          few = omega arith;
-          table = sym (ap (λ (y : Reading). y .table) q);
-        }
-    go true d true false h q = absurd (refused-not refl q)
-    go true d false b h q = absurd (refused-not refl q)
-    go false d l b h q = absurd (refused-not refl q)
-
-pub read-states : (ls : List (List ℕ)) (s : List ℕ) (t u : Table) (past : Past) (n : ℕ) → lines s ≡ ls → 1 < n → past .tasks ≤ maxTasks
-    → readLines t past n ls (endsInLF true s) ≡ accepted u → Stating past s t u
-unfolding readLines pastAfter
-read-states [] s t u past n e h m q = end-states s t u past n e m q
-read-states (l ∷ ls) s t u past n e h m q = go (lineSays past n l) (line-is past n l) q
-    (λ t past m q. read-states ls (a .rest) t u past (n + 1) (cc (a .row .split)) (omega arith) m (rw (a .row .shut true) at q))
-  where
-    a : Start l s
+    a : Start s l ls
     a = start-of s l ls e
 
-    go : (x : Said) → Line past n l x
-        → onSaid x (readLines (tableAfter t (past .tasks) x) (pastAfter past x) (n + 1) ls (endsInLF true s)) ≡ accepted u
-        → ((t : Table) (past : Past) → past .tasks ≤ maxTasks → readLines t past (n + 1) ls (endsInLF true s) ≡ accepted u → Stating past (a .rest) t u)
-        → Stating past s t u
-    go _ (is-cpus f e r) q ih = absurd (omega arith)
-    go _ (is-task f e r) q ih = task-states a past f r (ih _ _ (omega (arith, r .room)) q)
-    go _ (is-use f e r) q ih = use-states a past f r (ih _ _ m q)
-    go _ (is-not r) q ih = absurd (refused-not refl q)
+    go : (x : Said) → lineSays past n l ≡ x → Line past n l x → ((past : Past) → past .tasks ≤ maxTasks → Stating past (n + 1) (a .rest)) → Stating past n s
+    go _ d (is-cpus f e r) ih = absurd (omega arith)
+    go _ d (is-task f e r) ih = task-states past n m a f r (ih _ (omega (arith, r .room)))
+    go _ d (is-use f e r) ih = use-states past n m a f r (ih _ m)
+    go _ d (is-not r) ih = stating-none past n m (at-line l (a .rest) r (a .text) (a .clean) d)

@@ -1,28 +1,29 @@
--- A line with the form, the place and the rules of what it says does say it: the other way round from `line-is`.
+-- A line of words, at its place and with figures that obey the rules, says them: the other way round from `line-is`.
 -- Assumes nothing.
-use Prim.Native.Nat.{ℕ, _+_, _<_}
+use Prim.Native.Nat.{ℕ, _+_, _≤_, _<_}
 use mathlib.Core.Path.{_≡_, refl}
-use mathlib.Core.Bool.{true, false}
-use mathlib.Core.List.{List}
-use borrow.Author.Tests.{eqb-true, lt-ltb}
-use lib.Dec.{eqb}
+use mathlib.Core.Bool.{true}
+use mathlib.Core.List.{List, [], _∷_}
+use native.Mathlib.Omega.{arith}
+use borrow.Author.Tests.{lt-ltb}
 use Rattle.basics.specs.Text.{bytes}
-use Rattle.basics.proofs.ChoiceLaws.{and-true, within-in}
+use Rattle.basics.proofs.ChoiceLaws.{within-in}
 use Rattle.table.specs.declared.Pair.{Pair}
 use Rattle.table.specs.declared.Resource.{Resource}
 use Rattle.table.specs.Limits.{maxCpus, maxTasks, maxResources}
 use Rattle.table.proofs.RuleLaws.{times-fine, used-range, used-totals}
+use Rattle.table.specs.At.{aPair}
+use Rattle.table.specs.Accepted.{GoodTimes, GoodPair}
+use Rattle.field.specs.Spelling.{Time, StatesCount}
 use Rattle.field.specs.declared.Field.{Field}
-use Rattle.field.specs.declared.Rounding.the-variants.{Down, Up}
 use Rattle.line.specs.declared.Past.{Past}
 use Rattle.line.specs.declared.Said.the-variants.{Cpus, Task as TaskLine, Use}
-use Rattle.line.specs.Fields.{fieldCount, form}
-use Rattle.line.specs.Line.{cpusLine, taskLine, useLine, countIn, timeIn, lineSays}
+use Rattle.line.specs.Fields.{form}
+use Rattle.line.specs.Line.{cpusLine, taskLine, useLine, lineSays}
+use Rattle.line.specs.Stated.{IsField, IsLine, StatesTask, StatesUse}
+use Rattle.line.proofs.WordLaws.{line-fields, line-form, form-other}
+use Rattle.line.proofs.StatedLaws.{alone-field, count-stated, time-stated}
 use Rattle.line.proofs.LineRules.{CpusRules, TaskRules, UseRules}
-
--- a line of one form is of no form with another number of fields
-form-other : (w v : List ℕ) (k j : ℕ) (s : List ℕ) → form w k s ≡ true → eqb k j ≡ false → form v j s ≡ false
-form-other w v k j s f e = rw (eqb-true (fieldCount s) k (and-true (eqb (fieldCount s) k) _ f .0), e)
 
 cpus-said : {f : Field} {M : ℕ} (n : ℕ) → CpusRules f M → cpusLine n f ≡ Cpus M
 unfolding cpusLine
@@ -47,19 +48,46 @@ use-said {past} {K = K} {p} n r =
       used-totals p (past .sum + p .total) (past .run) (r .good) (r .fits),
     )
 
+pub cpus-word : IsField (bytes "cpus")
+cpus-word = alone-field refl (omega arith)
+
+pub task-word : IsField (bytes "task")
+task-word = alone-field refl (omega arith)
+
+pub use-word : IsField (bytes "use")
+use-word = alone-field refl (omega arith)
+
 module _ (past : Past) (n : ℕ) (s : List ℕ) where
-  pub says-cpus : {M : ℕ} → form (bytes "cpus") 2 s ≡ true → n ≡ 1 → CpusRules (countIn s 1) M → lineSays past n s ≡ Cpus M
+  pub says-cpus : {m : List ℕ} {M : ℕ} → IsLine "cpus" (m ∷ []) s → n ≡ 1 → StatesCount m M → 1 ≤ M → M ≤ maxCpus → lineSays past n s ≡ Cpus M
   unfolding lineSays
-  says-cpus f e r = rw (f, e) (cpus-said 1 r)
+  says-cpus {M = M} l e m a b =
+      let f : form (bytes "cpus") 2 s ≡ true = line-form cpus-word l in
+      rw (f, e, line-fields cpus-word l .1) (cpus-said 1 (record { field = count-stated m; least = a; most = b }))
 
-  pub says-task : {T C D : ℕ} → form (bytes "task") 4 s ≡ true → 1 < n → TaskRules past (timeIn Down s 1) (timeIn Up s 2) (timeIn Down s 3) T C D
-      → lineSays past n s ≡ TaskLine T C D
+  pub says-task : {t c d : List ℕ} {T C D : Time} → IsLine "task" (t ∷ c ∷ d ∷ []) s → 1 < n → StatesTask t c d T C D → past .tasks < maxTasks
+      → GoodTimes (T .held) (C .held) (D .held) → lineSays past n s ≡ TaskLine (T .held) (C .held) (D .held)
   unfolding lineSays
-  says-task f h r = rw (form-other (bytes "task") (bytes "cpus") 4 2 s f refl, f, lt-ltb 1 n h) (task-said n r)
+  says-task l h x room g =
+      let f : form (bytes "task") 4 s ≡ true = line-form task-word l in
+      rw (form-other (bytes "task") (bytes "cpus") 4 2 s f refl, f, lt-ltb 1 n h, line-fields task-word l .1)
+      (task-said n (record { period = time-stated (x .period); run = time-stated (x .run); deadline = time-stated (x .deadline); room = room; times = g }))
 
-  pub says-use : {K : Resource} {p : Pair} → form (bytes "use") 5 s ≡ true → 0 < past .tasks
-      → UseRules past (countIn s 1) (countIn s 2) (timeIn Up s 3) (timeIn Up s 4) K p → lineSays past n s ≡ Use K p
+  pub says-use : {k r c ct : List ℕ} {K N : ℕ} {C CT : Time} → IsLine "use" (k ∷ r ∷ c ∷ ct ∷ []) s → 0 < past .tasks → StatesUse k r c ct K N C CT
+      → K ≤ maxResources → past .last .0 < K → GoodPair (aPair N (C .held) (CT .held)) → past .sum + CT .held ≤ past .run
+      → lineSays past n s ≡ Use (record { 0 = K }) (aPair N (C .held) (CT .held))
   unfolding lineSays
-  says-use f h r =
-      rw (form-other (bytes "use") (bytes "cpus") 5 2 s f refl, form-other (bytes "use") (bytes "task") 5 4 s f refl, f, lt-ltb 0 (past .tasks) h)
-      (use-said n r)
+  says-use l h x most rising g fits =
+      let f : form (bytes "use") 5 s ≡ true = line-form use-word l in
+      rw (form-other (bytes "use") (bytes "cpus") 5 2 s f refl, form-other (bytes "use") (bytes "task") 5 4 s f refl, f, lt-ltb 0 (past .tasks) h, line-fields use-word l .1)
+      (use-said n
+      (record {
+        resource = count-stated (x .resource);
+        requests = count-stated (x .requests);
+        longest = time-stated (x .longest);
+        total = time-stated (x .total);
+        least = omega arith;
+        most = most;
+        rising = rising;
+        good = g;
+        fits = fits;
+      }))

@@ -16,8 +16,8 @@ use Rattle.table.specs.At.{noTask, taskAt, pairOf}
 use Rattle.field.specs.declared.Rounding.the-variants.{Down, Up}
 use Rattle.field.specs.Spelling.{RoundedTo}
 use Rattle.field.proofs.RoundingLaws.{whole-to}
-use Rattle.meaning.specs.Figures.{UseFigures, TaskFigures, Figures, StatesUses, use-line, StatesTasks, task-line, StatesFigures, cpus-line, GoodFigures, pairIn, useFor, pairFor, taskOf, taskFor, tableOf}
-use Rattle.meaning.specs.Sides.{noFigures, taskFigures, OnTheirSides, Sides}
+use Rattle.meaning.specs.Figures.{UseFigures, TaskFigures, noFigures, Figures, StatesUses, use-line, StatesTasks, task-line, StatesFigures, cpus-line, GoodFigures, heldPair, useFor, pairFor, taskOf, taskFor, tableOf}
+use Rattle.meaning.specs.Sides.{taskFigures, OnTheirSides, Sides}
 use Rattle.meaning.proofs.Meaning.{correct}
 use Rattle.meaning.proofs.OneReading.{unambiguous}
 
@@ -35,16 +35,16 @@ record TaskSides (x : TaskFigures) : Type 0 where
 
 uses-sides : {s : List ℕ} {us : List UseFigures} → StatesUses s us → (k : ℕ) → UseSides (useFor us k)
 uses-sides StatesUses.no-use k = record { c = whole-to Up 0; CT = whole-to Up 0 }
-uses-sides (use-line {u = u} {us} a b c d r) k = go (eqb (u .K) (suc k)) (uses-sides r k)
+uses-sides (use-line {u = u} {us} a r) k = go (eqb (u .K) (suc k)) (uses-sides r k)
   where
     go : (b : Bool) → UseSides (useFor us k) → UseSides (pick b u (useFor us k))
-    go true later = record { c = c .rounds; CT = d .rounds }
+    go true later = record { c = a .longest .rounds; CT = a .total .rounds }
     go false later = later
 
 tasks-sides : {s : List ℕ} {xs : List TaskFigures} → StatesTasks s xs → (i : ℕ) → i < length xs → TaskSides (getD xs i noFigures)
 tasks-sides StatesTasks.no-task i h = absurd (omega arith)
-tasks-sides (task-line a b c p r) zero h = record { T = a .rounds; C = b .rounds; D = c .rounds; uses = uses-sides p }
-tasks-sides (task-line a b c p r) (suc i) h = tasks-sides r i (omega arith)
+tasks-sides (task-line a p r) zero h = record { T = a .period .rounds; C = a .run .rounds; D = a .deadline .rounds; uses = uses-sides p }
+tasks-sides (task-line a p r) (suc i) h = tasks-sides r i (omega arith)
 
 figures-sides : {s : List ℕ} {f : Figures} → StatesFigures s f → (i : ℕ) → i < length (f .tasks) → TaskSides (taskFigures f i)
 figures-sides (cpus-line a r) i h = tasks-sides r i h
@@ -61,7 +61,7 @@ module _ (f : Figures) (few : length (f .tasks) ≤ maxTasks) (i : ℕ) (h : i <
   unfolding tableOf
   task-held = row-at maxTasks i (taskFor (f .tasks)) noTask (omega arith) ∙ task-for (f .tasks) i h
 
-  pair-held : (k : ℕ) → k < maxResources → pairOf (taskAt (tableOf f) i) k ≡ pairIn (useFor (taskFigures f i .uses) k)
+  pair-held : (k : ℕ) → k < maxResources → pairOf (taskAt (tableOf f) i) k ≡ heldPair (useFor (taskFigures f i .uses) k)
   unfolding taskOf
   pair-held k l =
       ap (λ (x : Task). pairOf x k) task-held ∙ row-at maxResources k (pairFor (taskFigures f i .uses)) unusedPair l
@@ -84,4 +84,4 @@ sides s t f q states =
     go (rw e at (r .2)) (rw e at (r .3))
   where
     go : GoodFigures f → t ≡ tableOf f → OnTheirSides t f
-    go good e = rw e (on-their-sides f states (good .tasks-most))
+    go good e = rw e (on-their-sides f states (good .so-far .tasks-most))

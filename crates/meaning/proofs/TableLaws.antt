@@ -17,7 +17,7 @@ use Rattle.table.specs.At.{noTask}
 use Rattle.line.specs.declared.Said.the-variants.{Task as TaskLine, Use}
 use Rattle.listing.specs.Read.{newTask, withPair, tableAfter}
 use Rattle.basics.specs.Over.{rowTo}
-use Rattle.meaning.specs.Figures.{UseFigures, TaskFigures, GoodTaskFigures, GoodTasks, pairIn, taskOf, taskFor, tableOf}
+use Rattle.meaning.specs.Figures.{UseFigures, TaskFigures, GoodTaskFigures, GoodTasks, heldPair, taskOf, taskFor, tableOf}
 use Rattle.basics.proofs.RowLaws.{row-is}
 use Rattle.meaning.proofs.PairRows.{putPairs, pairs-stored}
 
@@ -59,7 +59,7 @@ table m n row = record { cpus = m; n = n; tasks = row }
 -- after `tasks` tasks
 abbrev pub storeUses : Table → ℕ → List UseFigures → Table
 storeUses t tasks [] = t
-storeUses t tasks (u ∷ us) = storeUses (tableAfter t tasks (Use (record { 0 = u .K }) (pairIn u))) tasks us
+storeUses t tasks (u ∷ us) = storeUses (tableAfter t tasks (Use (record { 0 = u .K }) (heldPair u))) tasks us
 
 abbrev pub storeTasks : Table → ℕ → List TaskFigures → Table
 storeTasks t tasks [] = t
@@ -78,7 +78,7 @@ module _ (m n i : ℕ) (row : List Task) (h : i < length row) where
   uses-stored : (x : Task) (us : List UseFigures) → storeUses (table m n (set row i x)) (i + 1) us ≡ table m n (set row i (withPairs x (putPairs (x .pairs) us)))
   uses-stored x [] = refl
   uses-stored x (u ∷ us) =
-      ap (λ (t : Table). storeUses t (i + 1) us) (use-stored x (record { 0 = u .K }) (pairIn u)) ∙ uses-stored (withPair x (u .K - 1) (pairIn u)) us
+      ap (λ (t : Table). storeUses t (i + 1) us) (use-stored x (record { 0 = u .K }) (heldPair u)) ∙ uses-stored (withPair x (u .K - 1) (heldPair u)) us
 
   task-stored : (x : TaskFigures) → GoodTaskFigures x → storeUses (table m n (set row i (newTask (x .T .held) (x .C .held) (x .D .held)))) (i + 1) (x .uses) ≡ table m n (set row i (taskOf x))
   unfolding taskOf newTask

@@ -59,7 +59,7 @@ module _ {x : Task} {k : ℕ} {s : List ℕ} (r : UsesFrom x (suc k) s) where
   write-use g h p =
       record {
         uses = u ∷ r .uses;
-        states = StatesUses.use-line {u = u} (count-text _ (omega arith)) (count-text _ (omega arith)) (time-text Up _ (omega arith)) (time-text Up _ (omega arith)) (r .states);
+        states = StatesUses.use-line {u = u} (record { resource = count-text _ (omega arith); requests = count-text _ (omega arith); longest = time-text Up _ (omega arith); total = time-text Up _ (omega arith) }) (r .states);
         good = λ last sum a b.
             GoodUses.one-use {last = last} {sum = sum} {u = u} (omega arith) h p (omega (arith, sum-rises (suc k) maxResources (totalOf x) h, g .totals))
             (r .good _ _ (omega arith) (omega arith));
@@ -101,7 +101,7 @@ task-from {t} {k} {s} r h g =
       tasks = y ∷ r .tasks;
       states =
           rw (append-assoc _ (joinTo maxResources (pairText x)) s)
-          (StatesTasks.task-line {x = y} (time-text Down _ (omega arith)) (time-text Up _ (omega arith)) (time-text Down _ (omega arith)) (w .states) (r .states));
+          (StatesTasks.task-line {x = y} (record { period = time-text Down _ (omega arith); run = time-text Up _ (omega arith); deadline = time-text Down _ (omega arith) }) (w .states) (r .states));
       good = GoodTasks.one-task (record { times = g .times; uses = w .good 0 0 (omega arith) (omega arith) }) (r .good);
       count = omega arith;
       at = at;
@@ -142,6 +142,6 @@ text-states t a =
     let e : t .n ≡ length (r .tasks) = omega arith in (
       record { M = t .cpus; tasks = r .tasks },
       cpus-line (count-text (t .cpus) (omega arith)) (r .states),
-      record { cpus-least = a .cpus-least; cpus-most = a .cpus-most; tasks-least = omega arith; tasks-most = omega arith; tasks = r .good },
+      record { so-far = record { cpus-least = a .cpus-least; cpus-most = a .cpus-most; tasks-most = omega arith; tasks = r .good }; tasks-least = omega arith },
       rw (← row-eq maxTasks (taskFor (r .tasks)) _ (λ i h. r .at i i (omega arith)), ← e),
     )

@@ -13,8 +13,8 @@ use Rattle.table.specs.declared.Table.{Table}
 use Rattle.table.specs.Limits.{maxCpus, maxTasks, maxResources}
 use Rattle.table.specs.Empty.{emptyTask}
 use Rattle.table.specs.Accepted.{GoodTimes, GoodPair}
-use Rattle.field.specs.declared.Rounding.the-variants.{Down, Up}
-use Rattle.field.specs.Spelling.{Time, StatesTime, StatesCount}
+use Rattle.field.specs.Spelling.{Time, StatesCount}
+use Rattle.line.specs.Stated.{StatesTask, StatesUse}
 
 -- ---- figures
 
@@ -35,24 +35,25 @@ pub record TaskFigures : Type 0 where
   pub D : Time
   pub uses : List UseFigures
 
+-- no figures
+abbrev pub noFigures : TaskFigures
+noFigures = record { T = noTime; C = noTime; D = noTime; uses = [] }
+
 pub record Figures : Type 0 where
   pub M : ℕ
   pub tasks : List TaskFigures
 
 -- ---- which listings state them: `cpus M`, then each task followed by its `use` lines
--- "A run time, longest request or total (C, c, CT) is rounded up to the microsecond; a period or deadline (T, D) is rounded down" (document 02, 1/12)
 
 pub data StatesUses : List ℕ → List UseFigures → Type 0 where
   no-use : StatesUses [] []
   use-line : {k n c ct rest : List ℕ} {u : UseFigures} {us : List UseFigures}
-      → StatesCount k (u .K) → StatesCount n (u .N) → StatesTime Up c (u .c) → StatesTime Up ct (u .CT)
-      → StatesUses rest us → StatesUses (lineOf "use" (k ∷ n ∷ c ∷ ct ∷ []) ++ rest) (u ∷ us)
+      → StatesUse k n c ct (u .K) (u .N) (u .c) (u .CT) → StatesUses rest us → StatesUses (lineOf "use" (k ∷ n ∷ c ∷ ct ∷ []) ++ rest) (u ∷ us)
 
 pub data StatesTasks : List ℕ → List TaskFigures → Type 0 where
   no-task : StatesTasks [] []
   task-line : {t c d uses rest : List ℕ} {x : TaskFigures} {xs : List TaskFigures}
-      → StatesTime Down t (x .T) → StatesTime Up c (x .C) → StatesTime Down d (x .D) → StatesUses uses (x .uses)
-      → StatesTasks rest xs → StatesTasks (lineOf "task" (t ∷ c ∷ d ∷ []) ++ (uses ++ rest)) (x ∷ xs)
+      → StatesTask t c d (x .T) (x .C) (x .D) → StatesUses uses (x .uses) → StatesTasks rest xs → StatesTasks (lineOf "task" (t ∷ c ∷ d ∷ []) ++ (uses ++ rest)) (x ∷ xs)
 
 pub data StatesFigures : List ℕ → Figures → Type 0 where
   cpus-line : {m rest : List ℕ} {f : Figures} → StatesCount m (f .M) → StatesTasks rest (f .tasks)
@@ -61,14 +62,14 @@ pub data StatesFigures : List ℕ → Figures → Type 0 where
 -- ---- the rules that they obey ("Quantities"): "4, 5 and 7 are decided on the rounded values"
 
 -- the pair of a `use` line, as the table holds it
-abbrev pub pairIn : UseFigures → Pair
-pairIn u = record { requests = u .N; longest = u .c .held; total = u .CT .held }
+abbrev pub heldPair : UseFigures → Pair
+heldPair u = record { requests = u .N; longest = u .c .held; total = u .CT .held }
 
 -- the uses of a task with run time C, after one of resource `last`, with the CT so far
 pub data GoodUses (C : ℕ) : ℕ → ℕ → List UseFigures → Type 0 where
   no-use : {last sum : ℕ} → GoodUses C last sum []
   one-use : {last sum : ℕ} {u : UseFigures} {us : List UseFigures}
-      → last < u .K → u .K ≤ maxResources → GoodPair (pairIn u) → sum + u .CT .held ≤ C
+      → last < u .K → u .K ≤ maxResources → GoodPair (heldPair u) → sum + u .CT .held ≤ C
       → GoodUses C (u .K) (sum + u .CT .held) us → GoodUses C last sum (u ∷ us)
 
 pub record GoodTaskFigures (x : TaskFigures) : Type 0 where
@@ -79,12 +80,17 @@ pub data GoodTasks : List TaskFigures → Type 0 where
   no-task : GoodTasks []
   one-task : {x : TaskFigures} {xs : List TaskFigures} → GoodTaskFigures x → GoodTasks xs → GoodTasks (x ∷ xs)
 
-pub record GoodFigures (f : Figures) : Type 0 where
+-- the figures of the lines so far
+pub record GoodSoFar (f : Figures) : Type 0 where
   pub cpus-least : 1 ≤ f .M
   pub cpus-most : f .M ≤ maxCpus
-  pub tasks-least : 1 ≤ length (f .tasks)
   pub tasks-most : length (f .tasks) ≤ maxTasks
   pub tasks : GoodTasks (f .tasks)
+
+-- and of a whole listing
+pub record GoodFigures (f : Figures) : Type 0 where
+  pub so-far : GoodSoFar f
+  pub tasks-least : 1 ≤ length (f .tasks)
 
 -- ---- the table that holds them, and zeros
 
@@ -95,7 +101,7 @@ useFor (u ∷ us) k = pick (eqb (u .K) (suc k)) u (useFor us k)
 
 -- and the pair
 abbrev pub pairFor : List UseFigures → ℕ → Pair
-pairFor us k = pairIn (useFor us k)
+pairFor us k = heldPair (useFor us k)
 
 unfoldable pub taskOf : TaskFigures → Task
 taskOf x = record { period = x .T .held; run = x .C .held; deadline = x .D .held; pairs = rowTo maxResources (pairFor (x .uses)) }

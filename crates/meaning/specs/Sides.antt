@@ -1,7 +1,7 @@
 -- Document 02, 1/12: on which side of what was typed each figure of a table lies.
 use Prim.Native.Nat.{ℕ, _<_}
 use mathlib.Core.Path.{_≡_}
-use mathlib.Core.List.{List, []}
+use mathlib.Core.List.{List}
 use lib.ListN.{getD}
 use Rattle.table.specs.declared.Table.{Table}
 use Rattle.table.specs.Limits.{maxResources}
@@ -10,12 +10,9 @@ use Rattle.field.specs.declared.Rounding.the-variants.{Down, Up}
 use Rattle.field.specs.Spelling.{RoundedTo}
 use Rattle.table.specs.Answers.{accepted}
 use Rattle.listing.specs.Read.{readListing}
-use Rattle.meaning.specs.Figures.{noTime, UseFigures, TaskFigures, Figures, StatesFigures, useFor}
+use Rattle.meaning.specs.Figures.{noFigures, UseFigures, TaskFigures, Figures, StatesFigures, useFor}
 
 -- ---- the figures of a task by its slot, and of a resource by its slot, both counted from 0; zeros where there are none
-
-abbrev pub noFigures : TaskFigures
-noFigures = record { T = noTime; C = noTime; D = noTime; uses = [] }
 
 abbrev pub taskFigures : Figures → ℕ → TaskFigures
 taskFigures f i = getD (f .tasks) i noFigures

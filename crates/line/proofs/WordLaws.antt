@@ -1,0 +1,170 @@
+-- A line's form is that it is a line of words (specs/Stated.antt).
+--     form-line, line-form   a line of this form is the line of this word and its fields, and the other way round
+--     field-alone            nothing in a field parts fields
+-- Assumes nothing.
+use Prim.Native.Nat.{ℕ, zero, suc, _+_, _≤_}
+use Prim.Native.String.{String}
+use mathlib.Core.Path.{_≡_, refl, sym, ap, _∙_}
+use mathlib.Core.Bool.{Bool, true, false, _||_, true≢false}
+use mathlib.Core.List.{List, [], _∷_, _++_}
+use native.Mathlib.Omega.{arith}
+use lib.ListN.{length, getD, drop, drop-of-length-le}
+use lib.Seq.{drop-cons}
+use lib.Dec.{eqb}
+use borrow.Author.Tests.{eq-eqb, ne-eqb, eqb-true}
+use Rattle.basics.specs.Choice.{pick}
+use Rattle.basics.specs.Text.{bytes, ending}
+use Rattle.basics.proofs.ChoiceLaws.{and-true}
+use Rattle.field.specs.Number.{apart, first, ends}
+use Rattle.line.specs.Fields.{others, fields, filled, fieldCount, same, form}
+use Rattle.line.specs.Stated.{Without, no-byte, one-byte, IsField, AreFields, none, more, IsLine}
+use Rattle.line.proofs.FieldLaws.{form-fields}
+
+-- ---- bytes that a text has not
+
+in-field : (b : ℕ) → apart b ≡ false → (b ≡ 32 → ⊥) × (b ≡ 10 → ⊥)
+in-field b e = (λ q. true≢false (sym (ap apart q) ∙ e), λ q. true≢false (sym (ap apart q) ∙ e))
+
+field-in : (b : ℕ) → (b ≡ 32 → ⊥) → (b ≡ 10 → ⊥) → apart b ≡ false
+field-in b n m = rw (ne-eqb b 32 n, ne-eqb b 10 m)
+
+pub field-alone : {w : List ℕ} → Without 32 w → Without 10 w → first w ≡ w
+field-alone no-byte no-byte = refl
+field-alone (one-byte {c} n r) (one-byte m q) = rw (field-in c n m, field-alone r q)
+
+pub first-field : (s : List ℕ) → Without 32 (first s) × Without 10 (first s)
+first-field [] = (no-byte, no-byte)
+first-field (b ∷ s) = go (apart b) refl (first-field s)
+  where
+    go : (t : Bool) → apart b ≡ t → Without 32 (first s) × Without 10 (first s) → Without 32 (pick t [] (b ∷ first s)) × Without 10 (pick t [] (b ∷ first s))
+    go true e ih = (no-byte, no-byte)
+    go false e ih = let n = in-field b e in (one-byte (n .0) (ih .0), one-byte (n .1) (ih .1))
+
+-- ---- the fields of a line
+
+-- nothing in field i parts fields
+abbrev pub Clean : List (List ℕ) → ℕ → Type 0
+Clean ws i = Without 32 (getD ws i []) × Without 10 (getD ws i [])
+
+pub others-field : (l : List ℕ) (i : ℕ) → Clean (others l) i
+others-field [] i = (no-byte, no-byte)
+others-field (b ∷ l) i = go (apart b) i (others-field l)
+  where
+    go : (t : Bool) (i : ℕ) → ((i : ℕ) → Clean (others l) i) → Clean (pick t (first l ∷ others l) (others l)) i
+    go true zero ih = first-field l
+    go true (suc i) ih = ih i
+    go false i ih = ih i
+
+fields-are : (ws : List (List ℕ)) → ((i : ℕ) → Clean ws i) → filled ws ≡ true → AreFields ws
+fields-are [] h e = none
+fields-are ([] ∷ ws) h e = absurd (true≢false (sym e))
+fields-are ((b ∷ w) ∷ ws) h e = more {w = b ∷ w} (record { some = omega arith; no-space = h 0 .0; no-end = h 0 .1 }) (fields-are ws (λ i. h (suc i)) e)
+
+line-text : {l : List ℕ} → Without 10 l → l ++ (10 ∷ []) ≡ first l ++ ending (others l)
+line-text no-byte = refl
+line-text (one-byte {c = b} {s = l} n r) = go (apart b) refl (line-text r)
+  where
+    space : (t : Bool) → eqb b 32 ≡ t → (t || eqb b 10) ≡ true → b ≡ 32
+    space true e q = eqb-true b 32 e
+    space false e q = absurd (n (eqb-true b 10 q))
+
+    go : (t : Bool) → apart b ≡ t → l ++ (10 ∷ []) ≡ first l ++ ending (others l)
+        → b ∷ (l ++ (10 ∷ [])) ≡ pick t [] (b ∷ first l) ++ ending (pick t (first l ∷ others l) (others l))
+    go true e ih = rw (space (eqb b 32) refl e, ih)
+    go false e ih = rw ih
+
+-- n elements, from i on
+abbrev pub listed : ℕ → ℕ → List (List ℕ) → List (List ℕ)
+listed zero i ws = []
+listed (suc n) i ws = getD ws i [] ∷ listed n (suc i) ws
+
+listed-is : (n i : ℕ) (ws : List (List ℕ)) → length ws ≡ i + n → drop i ws ≡ listed n i ws
+listed-is zero i ws e = drop-of-length-le ws {i = i} (omega arith)
+listed-is (suc n) i ws e = drop-cons ws i [] (omega arith) ∙ ap (λ (x : List (List ℕ)). getD ws i [] ∷ x) (listed-is n (suc i) ws (omega arith))
+
+form-filled : (w : List ℕ) (k : ℕ) (l : List ℕ) → form w (suc k) l ≡ true → filled (fields l) ≡ true
+unfolding fieldCount
+form-filled w k l e = go (filled (fields l)) (eqb-true (fieldCount l) (suc k) (and-true (eqb (fieldCount l) (suc k)) _ e .0))
+  where
+    go : (b : Bool) → pick b (length (fields l)) 0 ≡ suc k → b ≡ true
+    go true q = refl
+    go false q = absurd (omega arith)
+
+-- of the fields, where none is empty, none but the first is
+filled-rest : (w : List ℕ) (ws : List (List ℕ)) → filled (w ∷ ws) ≡ true → filled ws ≡ true
+filled-rest [] ws e = absurd (true≢false (sym e))
+filled-rest (b ∷ w) ws e = e
+
+pub form-line : (word : String) (k : ℕ) (l : List ℕ) → Without 10 l → form (bytes word) (suc k) l ≡ true → IsLine word (listed k 0 (others l)) l
+form-line word k l n e =
+    let f = form-fields (bytes word) k l e in
+    let o = listed-is k 0 (others l) (omega arith) in
+    rw (← o) (record { text = line-text n ∙ rw (f .1); fields = fields-are (others l) (others-field l) (filled-rest (first l) (others l) (form-filled (bytes word) k l e)) })
+
+-- ---- the form of a line of words
+
+first-end : (l z : List ℕ) → ends z ≡ true → first (l ++ z) ≡ first l
+first-end [] [] e = refl
+first-end [] (b ∷ z) e = rw e
+first-end (b ∷ l) z e = rw (first-end l z e)
+
+others-end : (l : List ℕ) → others (l ++ (10 ∷ [])) ≡ others l ++ ([] ∷ [])
+others-end [] = refl
+others-end (b ∷ l) = rw (first-end l (10 ∷ []) refl, others-end l) (go (apart b))
+  where
+    go : (t : Bool) → pick t (first l ∷ (others l ++ ([] ∷ []))) (others l ++ ([] ∷ [])) ≡ pick t (first l ∷ others l) (others l) ++ ([] ∷ [])
+    go true = refl
+    go false = refl
+
+ending-ends : (ws : List (List ℕ)) → ends (ending ws) ≡ true
+ending-ends [] = refl
+ending-ends (w ∷ ws) = refl
+
+word-others : {w : List ℕ} (z : List ℕ) → Without 32 w → Without 10 w → others (w ++ z) ≡ others z
+word-others z no-byte no-byte = refl
+word-others z (one-byte {c} n r) (one-byte m q) = rw (field-in c n m) (word-others z r q)
+
+ending-others : {ws : List (List ℕ)} → AreFields ws → others (ending ws) ≡ ws ++ ([] ∷ [])
+ending-others none = refl
+ending-others (more {w} {ws} a r) =
+    rw (first-end w (ending ws) (ending-ends ws), field-alone (a .no-space) (a .no-end), word-others (ending ws) (a .no-space) (a .no-end), ending-others r)
+
+-- all but the last
+initial : List (List ℕ) → List (List ℕ)
+initial [] = []
+initial (w ∷ []) = []
+initial (w ∷ v ∷ ws) = w ∷ initial (v ∷ ws)
+
+initial-is : (ws : List (List ℕ)) (v : List ℕ) → initial (ws ++ (v ∷ [])) ≡ ws
+unfolding initial
+initial-is [] v = refl
+initial-is (w ∷ []) v = refl
+initial-is (w ∷ u ∷ ws) v = rw (initial-is (u ∷ ws) v)
+
+same-self : (w : List ℕ) → same w w ≡ true
+same-self [] = refl
+same-self (b ∷ w) = rw (eq-eqb b b refl, same-self w)
+
+filled-fields : {ws : List (List ℕ)} → AreFields ws → filled ws ≡ true
+filled-fields none = refl
+filled-fields (more {w} {ws} a r) = go w (a .some) (filled-fields r)
+  where
+    go : (w : List ℕ) → 1 ≤ length w → filled ws ≡ true → filled (w ∷ ws) ≡ true
+    go [] h ih = absurd (omega arith)
+    go (b ∷ w) h ih = ih
+
+pub line-fields : {word : String} {ws : List (List ℕ)} {l : List ℕ} → IsField (bytes word) → IsLine word ws l → (first l ≡ bytes word) × (others l ≡ ws)
+line-fields {word} {ws} {l} a r = (
+  sym (first-end l (10 ∷ []) refl) ∙ ap first (r .text) ∙ first-end (bytes word) (ending ws) (ending-ends ws) ∙ field-alone (a .no-space) (a .no-end),
+  sym (initial-is (others l) []) ∙ ap initial (sym (others-end l) ∙ ap others (r .text) ∙ word-others (ending ws) (a .no-space) (a .no-end) ∙ ending-others (r .fields)) ∙ initial-is ws [],
+)
+
+pub line-form : {word : String} {ws : List (List ℕ)} {l : List ℕ} → IsField (bytes word) → IsLine word ws l → form (bytes word) (suc (length ws)) l ≡ true
+unfolding fieldCount
+line-form {word} {ws} {l} a r =
+    let f = line-fields a r in
+    rw (f .0, f .1, filled-fields (more a (r .fields)), eq-eqb (suc (length ws)) (suc (length ws)) refl, same-self (bytes word))
+
+-- a line of one form is of no form with another number of fields
+pub form-other : (w v : List ℕ) (k j : ℕ) (s : List ℕ) → form w k s ≡ true → eqb k j ≡ false → form v j s ≡ false
+form-other w v k j s f e = rw (eqb-true (fieldCount s) k (and-true (eqb (fieldCount s) k) _ f .0), e)

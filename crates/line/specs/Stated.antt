@@ -1,0 +1,47 @@
+-- A line of a listing said a second way, without reading it: which bytes are a line of words, and which figures its fields state.
+use Prim.Native.Nat.{ℕ, _≤_}
+use Prim.Native.String.{String}
+use mathlib.Core.Path.{_≡_}
+use mathlib.Core.List.{List, [], _∷_, _++_}
+use lib.ListN.{length}
+use Rattle.basics.specs.Text.{lineOf}
+use Rattle.field.specs.declared.Rounding.the-variants.{Down, Up}
+use Rattle.field.specs.Spelling.{Time, StatesTime, StatesCount}
+
+-- ---- "Lines end in LF; fields are parted by exactly one space."
+
+-- a text in which no byte is b
+pub data Without (b : ℕ) : List ℕ → Type 0 where
+  no-byte : Without b []
+  one-byte : {c : ℕ} {s : List ℕ} → (c ≡ b → ⊥) → Without b s → Without b (c ∷ s)
+
+-- a field: not empty, and without a space or an LF
+pub record IsField (w : List ℕ) : Type 0 where
+  pub some : 1 ≤ length w
+  pub no-space : Without 32 w
+  pub no-end : Without 10 w
+
+pub data AreFields : List (List ℕ) → Type 0 where
+  none : AreFields []
+  more : {w : List ℕ} {ws : List (List ℕ)} → IsField w → AreFields ws → AreFields (w ∷ ws)
+
+-- s, to which the LF does not belong, is the line of a word and fields
+pub record IsLine (word : String) (ws : List (List ℕ)) (s : List ℕ) : Type 0 where
+  pub text : s ++ (10 ∷ []) ≡ lineOf word ws
+  pub fields : AreFields ws
+
+-- ---- what the fields of a line state. "A run time, longest request or total (C, c, CT) is rounded up to the microsecond;
+-- a period or deadline (T, D) is rounded down" (document 02, 1/12)
+
+-- `task T C D`
+pub record StatesTask (t c d : List ℕ) (T C D : Time) : Type 0 where
+  pub period : StatesTime Down t T
+  pub run : StatesTime Up c C
+  pub deadline : StatesTime Down d D
+
+-- `use K N c CT`
+pub record StatesUse (k n c ct : List ℕ) (K N : ℕ) (C CT : Time) : Type 0 where
+  pub resource : StatesCount k K
+  pub requests : StatesCount n N
+  pub longest : StatesTime Up c C
+  pub total : StatesTime Up ct CT
