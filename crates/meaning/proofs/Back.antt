@@ -1,30 +1,24 @@
 -- Reading what was written (specs/Back.antt).
 -- Assumes nothing.
-use Prim.Native.Nat.{ℕ, zero, suc, _≤_, _<_}
+use Prim.Native.Nat.{ℕ, zero, suc}
 use mathlib.Core.Path.{_≡_, ap, _∙_}
-use mathlib.Core.Bool.{Bool, true, false}
 use mathlib.Core.List.{List, [], _∷_}
 use native.Mathlib.Omega.{arith}
-use lib.ListN.{length, length-append}
+use lib.ListN.{length}
 use lib.Dec.{ltb, leb·suc-suc}
 use borrow.Author.Tests.{lt-ltb, le-ltb}
 use Rattle.basics.specs.Choice.{pick}
-use Rattle.basics.proofs.JoinLaws.{join-eq, join-bound}
-use Rattle.table.specs.declared.Pair.{Pair}
+use Rattle.basics.proofs.JoinLaws.{join-eq}
 use Rattle.table.specs.declared.Task.{Task}
 use Rattle.table.specs.Limits.{maxTasks, maxResources}
 use Rattle.table.specs.Empty.{unusedPair, emptyTask}
 use Rattle.table.specs.At.{noTask, taskAt, pairOf, SameTask}
-use Rattle.table.specs.Accepted.{GoodTask}
 use Rattle.table.specs.Cleared.{clearedTask, cleared}
-use Rattle.table.proofs.RuleLaws.{PairBounds, pair-bounds}
 use Rattle.table.proofs.Acceptance.{fine-accepted}
-use Rattle.put.specs.Text.{countText}
-use Rattle.meaning.proofs.FieldBack.{count-text}
-use Rattle.put.proofs.TimeLaws.{time-length}
 use Rattle.table.specs.Answers.{accepted}
 use Rattle.meaning.specs.Figures.{TaskFigures, Figures, pairFor, taskOf, taskFor, tableOf}
-use Rattle.writing.specs.Write.{useText, pairText, taskText, textOf}
+use Rattle.writing.specs.Write.{pairText, taskText, textOf}
+use Rattle.writing.proofs.LongestText.{longest-text}
 use Rattle.meaning.specs.Back.{TextFits, ReadsBack, Rewrites, SameText}
 use Rattle.basics.proofs.RowLaws.{row-at, row-eq}
 use Rattle.meaning.proofs.TableLaws.{table}
@@ -33,50 +27,8 @@ use Rattle.meaning.proofs.TextFigures.{text-states}
 
 -- ---- how long a text is
 
-count-few : (n : ℕ) → n ≤ 9_999 → length (countText n) ≤ 4
-count-few n h = count-text n h .digits .few
-
-pair-fits : (x : Task) (k : ℕ) → k < maxResources → PairBounds (pairOf x k) → length (pairText x k) ≤ 38
-unfolding pairText useText
-pair-fits x k h b = go (ltb 0 (pairOf x k .requests))
-  where
-    p : Pair
-    p = pairOf x k
-
-    go : (u : Bool) → length (pick u (useText (suc k) p) []) ≤ 38
-    go true =
-        simp length-append
-        (omega (
-          arith,
-          count-few (suc k) (omega arith),
-          count-few (p .requests) (omega arith),
-          time-length (p .longest) (omega arith),
-          time-length (p .total) (omega arith),
-        ))
-    go false = omega arith
-
-task-fits : (x : Task) → GoodTask x → length (taskText x) ≤ 649
-unfolding taskText
-task-fits x g =
-    simp length-append
-    (omega (
-      arith,
-      time-length (x .period) (omega arith),
-      time-length (x .run) (omega arith),
-      time-length (x .deadline) (omega arith),
-      join-bound maxResources 38 (pairText x) (λ k h. pair-fits x k h (pair-bounds (pairOf x k) (g .pair k h))),
-    ))
-
 pub text-fits : TextFits
-unfolding textOf
-text-fits t e =
-    let a = fine-accepted t e in
-    simp length-append
-    (omega (
-      arith,
-      count-few (t .cpus) (omega arith),
-      join-bound (t .n) 649 (λ i. taskText (taskAt t i)) (λ i h. task-fits (taskAt t i) (a .task i h)),
-    ))
+text-fits t e = omega (arith, longest-text .most t e)
 
 -- ---- the text is read as the table
 

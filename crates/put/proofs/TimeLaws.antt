@@ -5,8 +5,9 @@ use mathlib.Core.Path.{_≡_, refl, ap, _∙_}
 use mathlib.Core.Bool.{Bool, true, false}
 use mathlib.Core.List.{List, [], _∷_, _++_, append-nil}
 use native.Mathlib.Omega.{arith}
+use native.Mathlib.Nat.{pow-suc, pow-le-pow-right}
 use lib.ListN.{length, length-append}
-use lib.Dec.{eqb, lit≤}
+use lib.Dec.{eqb, lit≤, lit<}
 use borrow.Author.Tests.{eqb-true, eqb-false, eq-eqb, ne-eqb}
 use Rattle.basics.proofs.FillLaws.{Filled}
 use Rattle.put.specs.Text.{digitsOf, width, countText, trim, pointed, timeText}
@@ -96,6 +97,18 @@ module _ (us : ℕ) where
       → Filled o o₁ (countText (us / 1000) ++ fractionText (us % 1000)) (w + length (fractionText (us % 1000))) → Filled o o₁ (timeText us) (w + n)
   parts-filled w q f = rw (time-parts, q) f
 
+  -- up to 10 ^ k milliseconds: 10 ^ k itself, which has a digit more, has no fraction
+  pub time-few : (k : ℕ) → 1 ≤ k → us ≤ 10 ^ k * 1000 → length (timeText us) ≤ 4 + k
+  time-few k l h = go (eqb us (10 ^ k * 1000)) refl
+    where
+      go : (b : Bool) → eqb us (10 ^ k * 1000) ≡ b → length (timeText us) ≤ 4 + k
+      go true e =
+          let q = eqb-true us (10 ^ k * 1000) e in
+          let z : us % 1000 ≡ 0 = omega arith in
+          omega (arith, parts-length refl refl, ap (λ (x : ℕ). length (fractionText x)) z, width-few (us / 1000) (suc k) (omega arith) (omega (arith, pow-suc 10 k, pow-le-pow-right {n = 10} (lit< tt) {i = 1} {j = k} l)))
+      go false e =
+          let q = eqb-false us (10 ^ k * 1000) e in
+          omega (arith, parts-length refl refl, fraction-most (us % 1000) (omega arith), width-few (us / 1000) k l (omega arith))
+
   pub time-length : us < 4_294_967_296 → length (timeText us) ≤ 11
-  time-length h =
-      omega (arith, parts-length refl refl, fraction-most (us % 1000) (omega arith), width-few (us / 1000) 7 (lit≤ tt) (omega arith))
+  time-length h = time-few 7 (lit≤ tt) (omega arith)
