@@ -15,8 +15,9 @@ use Rattle.basics.proofs.FirstIndexLaws.{first-is}
 use Rattle.table.specs.declared.Checked.the-variants.{Fine}
 use Rattle.block.specs.Numbers.{byteAt}
 use Rattle.card.specs.Archive.{blockAt, blocksIn}
+use Rattle.card.proofs.ReadLaws.{accepted-is}
 use Rattle.release.specs.Refusals.{GoodBlock}
-use Rattle.release.proofs.Parts.{parts-joined, accepted-is, Kept, fine-kept}
+use Rattle.release.proofs.Parts.{parts-joined, Kept, fine-kept}
 use Rattle.salvaging.specs.declared.Fate.the-variants.{Kept as IsKept}
 use Rattle.salvaging.specs.Fates.{codeOf, sameBytes, codesOf}
 use Rattle.salvaging.specs.Salvage.{mended, salvageFault, salvageAnswer, listed, salvaged}

@@ -22,9 +22,10 @@ use Rattle.table.proofs.RuleLaws.{unless-fine}
 use Rattle.table.proofs.Acceptance.{fine-accepted, accepted-fine}
 use Rattle.block.specs.Block.{goodBlock, headIn}
 use Rattle.card.specs.Archive.{blockAt, blocksIn, isLength, agrees, blockFault, blockFaultAt, blocksFault, tableIn, archiveFault, readArchive}
+use Rattle.card.proofs.ReadLaws.{answer-is}
 use Rattle.release.specs.Refusals.{Whole, GoodBlock, InPlace, FirstGood, CallsFor, bad-length, bad-block, mismatch, table, RefusedAsCalled}
 use Rattle.release.proofs.GoodLaws.{good-is, is-good, agrees-is, is-agreed}
-use Rattle.release.proofs.Parts.{whole-blocks, whole-is, is-whole, block-good, block-fine, answer-is, fine-kept, kept-fine}
+use Rattle.release.proofs.Parts.{whole-blocks, whole-is, is-whole, block-good, block-fine, fine-kept, kept-fine}
 
 -- ---- a block
 

@@ -17,11 +17,12 @@ use Rattle.block.specs.Numbers.{byteAt, numberAt}
 use Rattle.block.specs.Block.{goodBlock}
 use Rattle.block.proofs.NumberLaws.{number-two}
 use Rattle.card.specs.Archive.{blockAt, blocksIn, blockFault, blockFaultAt, blocksFault, archiveFault}
+use Rattle.card.proofs.ReadLaws.{answer-is, accepted-is}
 use Rattle.release.specs.Undo.{Bytes, Noticed}
 use Rattle.release.specs.Refusals.{Whole, GoodBlock}
 use Rattle.release.proofs.NumberBack.{number-eq}
 use Rattle.release.proofs.GoodLaws.{good-is}
-use Rattle.release.proofs.Parts.{block-bytes, is-whole, block-fine, answer-is, accepted-is, Kept, fine-kept}
+use Rattle.release.proofs.Parts.{block-bytes, is-whole, block-fine, Kept, fine-kept}
 use Rattle.release.proofs.Changed.{check-changes}
 
 -- ---- a good block with one byte changed is not good

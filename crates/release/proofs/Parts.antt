@@ -1,7 +1,7 @@
 -- An archive and its blocks: the parts of what was joined, what is joined of the parts; and what an accepted archive is.
 -- Assumes nothing.
 use Prim.Native.Nat.{ℕ, zero, suc, _+_, _-_, _*_, _%_, _≤_, _<_}
-use mathlib.Core.Path.{_≡_, refl, sym, ap, _∙_}
+use mathlib.Core.Path.{_≡_, sym, ap, _∙_}
 use mathlib.Core.Bool.{true}
 use mathlib.Core.List.{List, _++_, append-assoc, append-nil}
 use native.Mathlib.Omega.{arith}
@@ -13,19 +13,15 @@ use Rattle.basics.specs.Over.{joinTo}
 use Rattle.basics.proofs.ChoiceLaws.{within-in}
 use Rattle.basics.proofs.JoinLaws.{join-none, join-more, join-at, join-even}
 use Rattle.table.specs.declared.Fault.the-variants.{BadLength, BadBlock, Mismatch}
-use Rattle.table.specs.declared.Checked.{Checked}
-use Rattle.table.specs.declared.Checked.the-variants.{Fine, Refused}
-use Rattle.table.specs.declared.Reading.{Reading}
-use Rattle.table.specs.declared.Table.{Table}
+use Rattle.table.specs.declared.Checked.the-variants.{Fine}
 use Rattle.table.specs.Limits.{maxTasks}
 use Rattle.table.specs.Faults.{_then_, unless, firstFault}
 use Rattle.table.specs.Rules.{tableFault}
-use Rattle.table.specs.Answers.{accepted, orTable}
 use Rattle.table.proofs.FirstLaws.{then-fine, each-fine, first-fine}
 use Rattle.table.proofs.RuleLaws.{unless-fine}
 use Rattle.block.specs.Numbers.{byteAt}
 use Rattle.block.specs.Block.{goodBlock}
-use Rattle.card.specs.Archive.{blockAt, blocksIn, isLength, blockFault, blockFaultAt, blocksFault, tableIn, archiveFault, readArchive}
+use Rattle.card.specs.Archive.{blockAt, blocksIn, isLength, blockFault, blockFaultAt, blocksFault, tableIn, archiveFault}
 use Rattle.card.proofs.ArchiveLaws.{length-whole}
 use Rattle.release.specs.Undo.{Bytes}
 use Rattle.release.specs.Refusals.{Whole, GoodBlock, InPlace, FirstGood}
@@ -89,23 +85,6 @@ module _ (a : List ℕ) (i : ℕ) where
   block-fine g p = rw (is-good (blockAt a i) g, is-agreed a (blocksIn a) i p)
 
 -- ---- an accepted archive
-
-pub answer-is : (a : List ℕ) → readArchive a .answer ≡ archiveFault a
-unfolding readArchive
-answer-is a = go (archiveFault a)
-  where
-    go : (c : Checked) → orTable c (tableIn a) .answer ≡ c
-    go Fine = refl
-    go (Refused r) = refl
-
--- what is accepted has no fault, and is read as what it says
-pub accepted-is : (a : List ℕ) (t : Table) → readArchive a ≡ accepted t → (archiveFault a ≡ Fine) × (tableIn a ≡ t)
-unfolding readArchive
-accepted-is a t e = go (archiveFault a) refl e
-  where
-    go : (c : Checked) → archiveFault a ≡ c → orTable c (tableIn a) ≡ accepted t → (c ≡ Fine) × (tableIn a ≡ t)
-    go Fine f q = (refl, ap (λ (r : Reading). r .table) q)
-    go (Refused r) f q = let e : Refused r ≡ Fine = ap (λ (x : Reading). x .answer) q in let z : _≡_ {A = ℕ} 0 1 = cc in absurd (omega arith)
 
 -- an archive against which nothing is said
 pub record Kept (a : List ℕ) : Type 0 where

@@ -28,11 +28,12 @@ use Rattle.block.specs.Block.{timesBytes, entryBytes, entriesBytes, bodyOf, blo
 use Rattle.block.proofs.BlockLaws.{block-length}
 use Rattle.card.specs.Archive.{headFor, blockFor, archiveOf, blockAt, blocksIn, tableIn, readArchive}
 use Rattle.card.proofs.ArchiveLaws.{archive-length}
+use Rattle.card.proofs.ReadLaws.{accepted-is, accepted-passes}
 use Rattle.release.specs.Undo.{Bytes, ReadsBack, WritesAgain, SameArchive, OneArchive, PassesCheck}
 use Rattle.release.specs.Refusals.{Whole, InPlace}
 use Rattle.release.proofs.BlockIs.{block-is}
 use Rattle.release.proofs.BlockBack.{Fits, good-back, head-back, task-back}
-use Rattle.release.proofs.Parts.{part-of, parts-joined, block-bytes, whole-blocks, accepted-is, Kept, fine-kept, kept-fine}
+use Rattle.release.proofs.Parts.{part-of, parts-joined, block-bytes, whole-blocks, Kept, fine-kept, kept-fine}
 
 -- ---- the archive of an accepted table
 
@@ -125,9 +126,7 @@ writes-again a t bytes e =
     rw (← p .1) (again a (fine-kept a (p .0)) bytes)
 
 pub passes-check : PassesCheck
-passes-check a t e =
-    let p = accepted-is a t e in
-    rw (p .1) at (fine-kept a (p .0) .table)
+passes-check = accepted-passes
 
 -- ---- one archive for one table
 

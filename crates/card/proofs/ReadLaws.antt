@@ -1,0 +1,42 @@
+-- What the reader's answer says of an archive.
+-- Assumes nothing.
+use Prim.Native.Nat.{ℕ}
+use mathlib.Core.Path.{_≡_, refl, ap}
+use mathlib.Core.List.{List}
+use native.Mathlib.Omega.{arith}
+use lib.ListN.{length}
+use Rattle.table.specs.declared.Fault.the-variants.{BadLength}
+use Rattle.table.specs.declared.Checked.{Checked}
+use Rattle.table.specs.declared.Checked.the-variants.{Fine, Refused}
+use Rattle.table.specs.declared.Reading.{Reading}
+use Rattle.table.specs.declared.Table.{Table}
+use Rattle.table.specs.Faults.{_then_, unless}
+use Rattle.table.specs.Rules.{tableFault}
+use Rattle.table.specs.Answers.{accepted, orTable}
+use Rattle.table.proofs.FirstLaws.{then-fine}
+use Rattle.card.specs.Archive.{isLength, blocksFault, tableIn, archiveFault, readArchive}
+
+pub answer-is : (a : List ℕ) → readArchive a .answer ≡ archiveFault a
+unfolding readArchive
+answer-is a = go (archiveFault a)
+  where
+    go : (c : Checked) → orTable c (tableIn a) .answer ≡ c
+    go Fine = refl
+    go (Refused r) = refl
+
+-- what is accepted has no fault, and is read as what it says
+pub accepted-is : (a : List ℕ) (t : Table) → readArchive a ≡ accepted t → (archiveFault a ≡ Fine) × (tableIn a ≡ t)
+unfolding readArchive
+accepted-is a t e = go (archiveFault a) refl e
+  where
+    go : (c : Checked) → archiveFault a ≡ c → orTable c (tableIn a) ≡ accepted t → (c ≡ Fine) × (tableIn a ≡ t)
+    go Fine f q = (refl, ap (λ (r : Reading). r .table) q)
+    go (Refused r) f q = let e : Refused r ≡ Fine = ap (λ (x : Reading). x .answer) q in let z : _≡_ {A = ℕ} 0 1 = cc in absurd (omega arith)
+
+-- the table's own refusals come last, so there are none
+pub accepted-passes : (a : List ℕ) (t : Table) → readArchive a ≡ accepted t → tableFault t ≡ Fine
+unfolding archiveFault
+accepted-passes a t e =
+    let p = accepted-is a t e in
+    let q = then-fine (unless (isLength (length a)) BadLength 0) _ (p .0) in
+    rw (p .1) at (then-fine (blocksFault a) (tableFault (tableIn a)) (q .1) .1)
