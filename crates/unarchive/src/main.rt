@@ -9,16 +9,16 @@ use table::Written;
 
 mod bytes;
 
-// One byte more than the longest archive, to know that one is too long.
-const MOST: usize = Table::MAX_TASKS * SIZE + 1;
+// The longest archive, and one byte past it, to know that an archive is too long.
+const SPACE: usize = Table::MAX_TASKS * SIZE + 1;
 
 fn main() {
-    let mut space = [0u8; MOST];
+    let mut space = [0u8; SPACE];
     let Input::Got(n) = console::read_input(&mut space) else {
         io::write_all(STDERR_FILENO, b"unarchive: the input could not be read\n");
         return;
     };
-    let mut out = [0u8; Table::MAX_LISTING];
+    let mut out = [0u8; writing::MAX_TEXT];
     match bytes::unarchive(&space[..n], &mut out) {
         Written::Wrote(length) => {
             if !io::write_all(STDOUT_FILENO, &out[..length]) {
