@@ -10,7 +10,7 @@ use table::Written;
 mod bytes;
 
 // The longest archive.
-const MOST: usize = Table::MAX_TASKS * SIZE;
+const MAX_ARCHIVE: usize = Table::MAX_TASKS * SIZE;
 
 fn main() {
     // one byte past the limit, to know that a listing is too long
@@ -19,7 +19,7 @@ fn main() {
         io::write_all(STDERR_FILENO, b"archive: the input could not be read\n");
         return;
     };
-    let mut out = [0u8; MOST];
+    let mut out = [0u8; MAX_ARCHIVE];
     match bytes::archive(&space[..n], &mut out) {
         Written::Wrote(length) => {
             if !io::write_all(STDOUT_FILENO, &out[..length]) {
