@@ -7,7 +7,7 @@ ghost use Rattle.put.specs.Text.{countText};
 ghost use Rattle.page.specs.Report.{boundText, rowWith};
 use crate::Bound;
 
-// A space and a field, at a place of out. This and the next two answer the place behind what they put.
+// A space and a field, at a place of out. This and the next answer the place behind what they put.
 fn spaced(out: &mut [u8], at: usize, s: &[u8]) -> usize
     requires { ⌜ at + length (now s) < length (now out) ⌝ }
     ensures { λ r. ⌜ (r ≡ at + length (32 ∷ now (s .entry))) × (now (out .exit) ≡ take at (now (out .entry)) ++ ((32 ∷ now (s .entry)) ++ drop r (now (out .entry)))) ⌝ }
@@ -17,23 +17,13 @@ fn spaced(out: &mut [u8], at: usize, s: &[u8]) -> usize
     rest + put::put_text(&mut out[rest..], s).length()
 }
 
-// A space and a count.
-fn spaced_count(out: &mut [u8], at: usize, n: u32) -> usize
-    requires { ⌜ at + length (countText n) < length (now out) ⌝ }
-    ensures { λ r. ⌜ (r ≡ at + length (32 ∷ countText n)) × (now (out .exit) ≡ take at (now (out .entry)) ++ ((32 ∷ countText n) ++ drop r (now (out .entry)))) ⌝ }
-{
-    out[at] = 32;
-    let rest = at + 1;
-    rest + put::put_count(&mut out[rest..], n).length()
-}
-
 // A space and a bound.
 fn spaced_bound(out: &mut [u8], at: usize, bound: Bound) -> usize
     requires { ⌜ at + length (boundText bound) < length (now out) ⌝ }
     ensures { λ r. ⌜ (r ≡ at + length (32 ∷ boundText bound)) × (now (out .exit) ≡ take at (now (out .entry)) ++ ((32 ∷ boundText bound) ++ drop r (now (out .entry)))) ⌝ }
 {
     match bound {
-        Bound::Of(t) => spaced_count(out, at, t),
+        Bound::Of(t) => at + put::spaced_count(out, at, t).length(),
         Bound::Dash => spaced(out, at, b"-"),
     }
 }
@@ -61,7 +51,7 @@ pub(crate) fn put_all(out: &mut [u8], number: u32, word: &[u8], bound: Bound, ro
     let a = put::put_count(out, number).length();
     let b = spaced(out, a, word);
     let c = spaced_bound(out, b, bound);
-    let d = spaced_count(out, c, rounds);
+    let d = c + put::spaced_count(out, c, rounds).length();
     out[d] = 10;
     d + 1
 }

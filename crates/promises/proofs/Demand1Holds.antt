@@ -7,7 +7,7 @@ use Rattle.table.proofs.Determined.{number-determined, empty-determined}
 use Rattle.rules.proofs.Determined.{first-of-determined, in-range-determined, times-determined, used-in-range-determined, totals-fit-determined, pair-determined}
 use Rattle.checking.proofs.Determined.{check-determined}
 use Rattle.field.proofs.Determined.{time-determined, count-determined, ends-at-determined}
-use Rattle.put.proofs.Determined.{put-time-determined, put-count-determined, put-text-determined, put-length-determined, count-len-determined, time-len-determined}
+use Rattle.put.proofs.Determined.{put-time-determined, put-count-determined, put-text-determined, spaced-count-determined, put-length-determined, count-len-determined, time-len-determined}
 use Rattle.put.proofs.PutLaws.{short-is}
 use Rattle.writing.specs.Write.{written}
 use Rattle.line.proofs.Determined.{line-of-determined}
@@ -73,6 +73,7 @@ determines =
       put-text = put-text-determined;
       put-time = put-time-determined;
       put-count = put-count-determined;
+      spaced-count = spaced-count-determined;
       line-of = line-of-determined;
       read = read-determined;
       write = write-determined;

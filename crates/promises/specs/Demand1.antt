@@ -52,6 +52,7 @@ use Rattle.field.proofs.count.Reads as count
 use Rattle.field.proofs.time.Reads as time
 use Rattle.put.proofs.put_count.Reads as put-count
 use Rattle.put.proofs.put_time.Reads as put-time
+use Rattle.put.proofs.spaced_count.Reads as spaced-count
 use Rattle.line.proofs.line_of.Reads as line-of
 use Rattle.listing.proofs.read.Reads as read
 use Rattle.writing.proofs.write.Reads as write
@@ -122,6 +123,7 @@ pub record Determines : Type 0 where
   pub put-text : (κs : Lfts 2) → DeterminedWith (λ x. x .0 .now) (put-text.Learnt κs)
   pub put-time : (κs : Lfts 1) → DeterminedWith (λ x. x .0 .now) (put-time.Learnt κs)
   pub put-count : (κs : Lfts 1) → DeterminedWith (λ x. x .0 .now) (put-count.Learnt κs)
+  pub spaced-count : (κs : Lfts 1) → DeterminedWith (λ x. x .0 .now) (spaced-count.Learnt κs)
   pub line-of : (κs : Lfts 1) → Determined (line-of.Learnt κs)
   pub read : (κs : Lfts 1) → Determined (read.Learnt κs)
   pub write : (κs : Lfts 1) → DeterminedWith (λ x. x .1 .0 .now) (write.Learnt κs)

@@ -1,3 +1,3 @@
--- What is written at the start of an output (document 01, "The listing").
+-- What is written at the start of an output, or at a place of it (document 01, "The listing").
 --   Text   the text of a count and of a time; what a writer answers
 pub mod Text

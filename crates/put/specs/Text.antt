@@ -2,7 +2,7 @@
 -- the fraction, and no point if the fraction is zero".
 use Prim.Native.Nat.{ℕ, zero, suc, _/_, _%_, _+_}
 use mathlib.Core.List.{List, [], _∷_, _++_}
-use lib.ListN.{length}
+use lib.ListN.{length, take, drop}
 use lib.Dec.{ltb, leb, eqb}
 use Rattle.basics.specs.Choice.{pick}
 use Rattle.put.specs.declared.Put.{Put}
@@ -52,6 +52,13 @@ timeText us = countText (us / 1000) ++ pointed (trim (digitsOf 3 (us % 1000)))
 -- what a writer of a text answers, of an output that holds `out`
 abbrev pub putAnswer : List ℕ → List ℕ → Put
 putAnswer text out = pick (leb (length text) (length out)) (Wrote (length text)) Short
+
+-- the same of a text that is put at a place of the output, and what the output then holds: but for the text it is as it was
+abbrev pub putAnswerAt : List ℕ → ℕ → List ℕ → Put
+putAnswerAt text at out = pick (leb (at + length text) (length out)) (Wrote (length text)) Short
+
+abbrev pub putAt : List ℕ → ℕ → List ℕ → List ℕ
+putAt text at out = pick (leb (at + length text) (length out)) (take at out ++ (text ++ drop (at + length text) out)) out
 
 abbrev pub putLength : Put → ℕ
 putLength (Wrote n) = n

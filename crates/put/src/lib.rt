@@ -1,10 +1,10 @@
-// Texts, counts and times, written at the start of an output.
+// Texts, counts and times, written at the start of an output; and a space and a count, at any place of it.
 ghost use mathlib.Core.Path.{_≡_};
-ghost use mathlib.Core.List.{_++_};
+ghost use mathlib.Core.List.{_∷_, _++_};
 ghost use Prim.Native.Nat.{_≤_, _<_};
 ghost use lib.ListN.{length, drop};
 ghost use Rattle.basics.specs.Text.{putInto};
-ghost use Rattle.put.specs.Text.{width, digitsOf, trim, pointed, countText, timeText, putAnswer, putLength};
+ghost use Rattle.put.specs.Text.{width, digitsOf, trim, pointed, countText, timeText, putAnswer, putAnswerAt, putAt, putLength};
 
 // How many bytes were written, or that the output is too short and was left as it was.
 pub enum Put {
@@ -194,4 +194,21 @@ pub fn put_time(out: &mut [u8], us: u32) -> Put
     put_digits(out, whole, w);
     put_fraction(&mut out[w..], rest);
     Put::Wrote(n)
+}
+
+// A space and a count, at a place of out.
+pub fn spaced_count(out: &mut [u8], at: usize, n: u32) -> Put
+    ensures { λ r. ⌜ (r ≡ putAnswerAt (32 ∷ countText n) at (now (out .entry))) × (now (out .exit) ≡ putAt (32 ∷ countText n) at (now (out .entry))) ⌝ }
+{
+    let k = width_of(n);
+    let room = out.len();
+    if room <= k {
+        return Put::Short;
+    }
+    if room - k <= at {
+        return Put::Short;
+    }
+    out[at] = 32;
+    put_digits(&mut out[at + 1..], n, k);
+    Put::Wrote(k + 1)
 }

@@ -1,5 +1,5 @@
 -- Laws of the writer.
---   WriteLaws     putting lines at places of the output
+--   WriteLaws     texts one after the other, and how long the lines are
 --   LongestText   how long a text can be
 --   Determined    two answers are equal
 pub mod WriteLaws

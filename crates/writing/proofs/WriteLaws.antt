@@ -1,22 +1,20 @@
--- Laws of the writer: a text put at a place of an output, texts written one after the other, and how long the lines are.
+-- Laws of the writer: texts written one after the other, and how long the lines are.
 -- Assumes nothing.
 use Prim.Native.Nat.{ℕ, suc, _+_, _≤_, _<_}
-use mathlib.Core.Path.{_≡_, refl, sym, ap, _∙_}
+use mathlib.Core.Path.{_≡_, refl, ap, _∙_}
 use mathlib.Core.Bool.{true, false}
 use mathlib.Core.List.{List, [], _∷_, _++_, append-assoc, append-nil}
 use native.Mathlib.Omega.{arith}
 use native.Mathlib.Numerals.{add-one}
-use lib.ListN.{length, set, take, drop, length-append, take-append-drop}
-use lib.Seq.{take-at, drop-at, drop-drop, append-snoc, length-take-le}
+use lib.ListN.{length, drop, length-append}
 use lib.Dec.{ltb}
-use borrow.Author.Tests.{le-leb}
 use Rattle.basics.specs.Choice.{pick}
 use Rattle.basics.specs.Over.{joinTo}
-use Rattle.basics.specs.Text.{putInto, ending, lineOf}
+use Rattle.basics.specs.Text.{ending, lineOf}
 use Rattle.basics.proofs.JoinLaws.{join-none, join-more, join-room}
-use Rattle.basics.proofs.FillLaws.{restAt, backAt, rest-length, Filled, filled-part, filled-byte}
-use Rattle.put.specs.declared.Put.{Put}
-use Rattle.put.specs.Text.{countText, timeText, putAnswer, putLength}
+use Rattle.basics.proofs.FillLaws.{restAt, backAt, Filled, filled-part}
+use Rattle.put.specs.Text.{countText, timeText}
+use Rattle.put.proofs.PlaceLaws.{filled-within}
 use Rattle.put.proofs.TextLaws.{count-length, width-most}
 use Rattle.put.proofs.TimeLaws.{time-length}
 use Rattle.table.specs.declared.Pair.{Pair}
@@ -24,57 +22,6 @@ use Rattle.table.specs.declared.Task.{Task}
 use Rattle.table.specs.declared.Table.{Table}
 use Rattle.table.specs.At.{taskAt}
 use Rattle.writing.specs.Write.{useText, timesText, taskText}
-
--- ---- a text put at a place
-
--- an output is filled with itself up to any place
-pub filled-here : (o : List ℕ) (a : ℕ) → a ≤ length o → Filled o o (take a o) a
-filled-here o a h = record { holds = sym (take-append-drop a o); long = length-take-le a o h; kept = refl }
-
-pub filled-within : {o o₁ p : List ℕ} {a : ℕ} → Filled o o₁ p a → a ≤ length o
-filled-within {o} {o₁} {p} {a} f = omega (arith, f .long, f .kept, ap length (f .holds), length-append p (drop a o))
-
--- the rest is lent to a writer of t, and has the room
-pub filled-put : {o o₁ p : List ℕ} {a : ℕ} → Filled o o₁ p a → (t : List ℕ) {q : Put} {ys : List ℕ} {k : ℕ} → a + length t ≤ length o
-    → q ≡ putAnswer t (restAt o₁ a) → k ≡ putLength q → length ys ≡ length (restAt o₁ a) → ys ≡ putInto t (restAt o₁ a)
-    → Filled o (backAt o₁ a ys) (p ++ t) (a + k)
-filled-put {o} {o₁} {p} {a} f t {q} {ys} {k} h e n l w =
-    let b = le-leb (length t) (length (restAt o₁ a)) (omega (arith, rest-length o₁ a, f .kept)) in
-    let m : k ≡ length t = n ∙ ap putLength (rw b at e) in
-    let v : ys ≡ t ++ drop k (restAt o₁ a) = rw m (rw b at w) in
-    filled-part f t (omega arith) m l v
-
--- the same, behind a space at the place a
-pub filled-field : (o : List ℕ) (a : ℕ) (t : List ℕ) {q : Put} {ys : List ℕ} {k : ℕ} → a + length t < length o
-    → q ≡ putAnswer t (restAt (set o a 32) (a + 1)) → k ≡ putLength q → length ys ≡ length (restAt (set o a 32) (a + 1))
-    → ys ≡ putInto t (restAt (set o a 32) (a + 1)) → Filled o (backAt (set o a 32) (a + 1) ys) (take a o ++ 32 ∷ t) (a + 1 + k)
-filled-field o a t h e n l w =
-    rw (← append-snoc) (filled-put (filled-byte (filled-here o a (omega arith)) 32 (omega arith)) t (omega arith) e n l w)
-
--- what is put at the place a, up to r
-pub put-is : {o o₁ : List ℕ} (a r : ℕ) (t : List ℕ) → a ≤ length o → Filled o o₁ (take a o ++ t) r → (r ≡ a + length t) × (o₁ ≡ take a o ++ (t ++ drop r o))
-put-is {o} a r t h f =
-    (omega (arith, f .long, length-append (take a o) t, length-take-le a o h), f .holds ∙ append-assoc (take a o) t (drop r o))
-
--- and what that makes of an output that is filled up to a
-pub filled-at : {o o₁ o₂ p : List ℕ} {a r : ℕ} → Filled o o₁ p a → (t : List ℕ) → length o₂ ≡ length o₁
-    → (r ≡ a + length t) × (o₂ ≡ take a o₁ ++ (t ++ drop r o₁)) → Filled o o₂ (p ++ t) r
-filled-at {o} {o₁} {o₂} {p} {a} {r} f t l e =
-    let u : take a o₁ ≡ p = ap (take a) (f .holds) ∙ take-at p (drop a o) a (f .long) in
-    let d : drop a o₁ ≡ drop a o = ap (drop a) (f .holds) ∙ drop-at p (drop a o) a (f .long) in
-    let v : drop r o₁ ≡ drop r o = rw (e .0, ← drop-drop (length t) a o₁, ← drop-drop (length t) a o, d) in
-    record {
-      holds = e .1 ∙ rw (u, v) (sym (append-assoc p t (drop r o)));
-      long = length-append p t ∙ omega (arith, f .long, e .0);
-      kept = l ∙ f .kept;
-    }
-
--- a text that a writer answers for, and the other way round
-pub filled-by : {o o₁ t : List ℕ} {r : ℕ} → length o₁ ≡ length o → (r ≡ length t) × (o₁ ≡ t ++ drop r o) → Filled o o₁ t r
-filled-by l e = record { holds = e .1; long = sym (e .0); kept = l }
-
-pub filled-is : {o o₁ p : List ℕ} {r : ℕ} (t : List ℕ) → Filled o o₁ p r → p ≡ t → (r ≡ length t) × (o₁ ≡ t ++ drop r o)
-filled-is t f e = rw (← e) (sym (f .long), f .holds)
 
 -- ---- texts f 0, f 1, .., one after the other, behind h
 

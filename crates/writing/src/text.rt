@@ -8,29 +8,19 @@ ghost use Rattle.basics.specs.Choice.{pick};
 ghost use Rattle.table.specs.Limits.{maxResources};
 ghost use Rattle.table.specs.declared.Checked.the-variants.{Fine};
 ghost use Rattle.table.specs.Rules.{tableFault};
-ghost use Rattle.put.specs.Text.{countText, timeText};
+ghost use Rattle.put.specs.Text.{timeText};
 ghost use Rattle.writing.specs.Write.{useText, timesText, taskText, textOf};
 use table::Pair;
 use table::Resource;
 use table::Table;
 use table::Task;
 
-// s, at a place of out. This and the next two answer the place behind what they put.
+// s, at a place of out. This and the next answer the place behind what they put.
 fn put(out: &mut [u8], at: usize, s: &[u8]) -> usize
     requires { ⌜ at + length (now s) ≤ length (now out) ⌝ }
     ensures { λ r. ⌜ (r ≡ at + length (now (s .entry))) × (now (out .exit) ≡ take at (now (out .entry)) ++ (now (s .entry) ++ drop r (now (out .entry)))) ⌝ }
 {
     at + put::put_text(&mut out[at..], s).length()
-}
-
-// A space and a count.
-fn spaced_count(out: &mut [u8], at: usize, n: u32) -> usize
-    requires { ⌜ at + length (countText n) < length (now out) ⌝ }
-    ensures { λ r. ⌜ (r ≡ at + length (32 ∷ countText n)) × (now (out .exit) ≡ take at (now (out .entry)) ++ ((32 ∷ countText n) ++ drop r (now (out .entry)))) ⌝ }
-{
-    out[at] = 32;
-    let rest = at + 1;
-    rest + put::put_count(&mut out[rest..], n).length()
 }
 
 // A space and a time.
@@ -60,8 +50,8 @@ fn put_use(out: &mut [u8], k: Resource, p: Pair) -> usize
     ensures { λ r. ⌜ (r ≡ length (useText (k .0) p)) × (now (out .exit) ≡ useText (k .0) p ++ drop r (now (out .entry))) ⌝ }
 {
     let a = put(out, 0, b"use");
-    let b = spaced_count(out, a, k.0);
-    let c = spaced_count(out, b, p.requests);
+    let b = a + put::spaced_count(out, a, k.0).length();
+    let c = b + put::spaced_count(out, b, p.requests).length();
     let d = spaced_time(out, c, p.longest);
     let e = spaced_time(out, d, p.total);
     put(out, e, b"\n")
@@ -167,7 +157,7 @@ pub(crate) fn put_table(out: &mut [u8], t: Table) -> usize
 {
     let n = t.n;
     let a = put(out, 0, b"cpus");
-    let b = spaced_count(out, a, t.cpus);
+    let b = a + put::spaced_count(out, a, t.cpus).length();
     let mut at = put(out, b, b"\n");
     let mut i: usize = 0;
     while i < n {

@@ -1,13 +1,13 @@
 -- `page::row::put_all` meets its contract: the number, each field and the LF are put at the place behind what was put before. Assumes nothing.
 use Prim.Native.Nat.{_+_, _≤_, _<_}
 use mathlib.Core.Path.{_≡_}
-use mathlib.Core.List.{_∷_, _++_, append-assoc}
+use mathlib.Core.List.{[], _∷_, _++_, append-assoc}
 use native.Mathlib.Omega.{arith}
-use lib.ListN.{length, drop}
+use lib.ListN.{length, set, drop}
 use Rattle.basics.proofs.FillLaws.{Filled, filled-byte}
 use Rattle.put.specs.Text.{countText}
-use Rattle.put.proofs.OutputLaws.{written-all, filled-text}
-use Rattle.writing.proofs.WriteLaws.{filled-at, filled-is}
+use Rattle.put.proofs.OutputLaws.{written-all, filled-text, filled-done}
+use Rattle.put.proofs.PlaceLaws.{PutAt, filled-at, at-all}
 use Rattle.page.specs.Report.{boundText, rowWith}
 use Rattle.page.proofs.RowLaws.{row-length}
 use borrow.Author.Needs.{needs}
@@ -36,47 +36,60 @@ spaced-requires c κs = let l = c .before in omega (arith, long l, counted l .0)
 spaced-bound-requires : tie.Need-spaced-bound-requires
 spaced-bound-requires c κs = let l = c .before .before .before .before .before in omega (arith, long l, counted l .0)
 
-spaced-count-requires : tie.Need-spaced-count-requires
-spaced-count-requires c κs = let l = c .before .before .before .before .before .before .before .before .before in omega (arith, long l, counted l .0)
+-- the output with all but the rounds and the LF
+abbrev numbered : tie.After-spaced-bound → tie.After-length
+numbered c = c .before .before .before .before .before .before
 
--- the output with all but the LF
-abbrev numbered : tie.After-spaced-count → tie.After-length
-numbered c = c .before .before .before .before .before .before .before .before .before .before
-
-filled : (c : tie.After-spaced-count) → let a = begin (numbered c) .args in
-    Filled (a .out .now) (c .spaced-count .last .0) (((countText (a .number) ++ 32 ∷ a .word .now) ++ 32 ∷ boundText (a .bound)) ++ 32 ∷ countText (a .rounds)) (c .spaced-count .result)
-filled c =
-    let b = c .before .before .before .before in
-    let w = b .before .before .before .before in
+bounded : (c : tie.After-spaced-bound) → let a = begin (numbered c) .args in
+    Filled (a .out .now) (c .spaced-bound .last .0) ((countText (a .number) ++ 32 ∷ a .word .now) ++ 32 ∷ boundText (a .bound)) (c .spaced-bound .result)
+bounded c =
+    let w = c .before .before .before .before in
     let l = numbered c in
     let a = begin l .args in
     let f₀ = filled-text (countText (a .number)) (l .before .before .before .put-count .kept .0) (counted l) in
     let f₁ = filled-at f₀ (32 ∷ a .word .now) (w .spaced .kept .0) (w .spaced .ensures) in
-    let f₂ = filled-at f₁ (32 ∷ boundText (a .bound)) (b .spaced-bound .kept .0) (b .spaced-bound .ensures) in
-    filled-at f₂ (32 ∷ countText (a .rounds)) (c .spaced-count .kept .0) (c .spaced-count .ensures)
+    filled-at f₁ (32 ∷ boundText (a .bound)) (c .spaced-bound .kept .0) (c .spaced-bound .ensures)
 
--- there is room for the LF
-ended : (c : tie.After-spaced-count) → c .spaced-count .result < length (begin (numbered c) .args .out .now)
-ended c =
-    let b = c .before .before .before .before in
-    let w = b .before .before .before .before in
-    omega (arith, long (numbered c), counted (numbered c) .0, w .spaced .ensures .0, b .spaced-bound .ensures .0, c .spaced-count .ensures .0)
+-- there is room for these
+rest : (c : tie.After-spaced-bound) → let a = begin (numbered c) .args in c .spaced-bound .result + 1 + length (countText (a .rounds)) < length (a .out .now)
+rest c =
+    let l = numbered c in
+    omega (arith, long l, counted l .0, c .before .before .before .before .spaced .ensures .0, c .spaced-bound .ensures .0)
+
+-- the rounds
+abbrev fields : tie.After-length2 → tie.After-spaced-bound
+fields c = c .before .before .before .before .before .before .before
+
+rounds : (c : tie.After-length2) → let b = fields c in let r = b .spaced-bound .result in
+    PutAt (32 ∷ countText (begin (numbered b) .args .rounds)) r (r + c .length2 .result) (b .spaced-bound .last .0) (c .before .before .before .spaced-count .last .0)
+rounds c =
+    let b = fields c in
+    let s = c .before .before .before .spaced-count in
+    at-all (32 ∷ countText (begin (numbered b) .args .rounds)) (b .spaced-bound .last .0) (b .spaced-bound .result) (omega (arith, rest b, bounded b .kept)) (c .length2 .ensures) (s .ensures)
+
+filled : (c : tie.After-length2) → let b = fields c in let a = begin (numbered b) .args in
+    Filled (a .out .now) (set (c .before .before .before .spaced-count .last .0) (b .spaced-bound .result + c .length2 .result) 10) ((((countText (a .number) ++ 32 ∷ a .word .now) ++ 32 ∷ boundText (a .bound)) ++ 32 ∷ countText (a .rounds)) ++ 10 ∷ []) (b .spaced-bound .result + c .length2 .result + 1)
+filled c =
+    let b = fields c in
+    filled-byte (filled-at (bounded b) (32 ∷ countText (begin (numbered b) .args .rounds)) (c .before .before .before .spaced-count .kept .0) (rounds c)) 10 (omega (arith, rest b, rounds c .0))
+
+add-d : tie.Need-add-d
+add-d c = omega (arith, rest (fields c), rounds c .0)
 
 slice-write-out : tie.Need-slice-write-out
-slice-write-out c = let s = c .before .before in omega (arith, ended s, filled s .kept)
+slice-write-out c = omega (arith, rest (fields c), rounds c .0, bounded (fields c) .kept)
 
 add-result : tie.Need-add-result
-add-result c = omega (arith, ended (c .before .before))
+add-result c = omega (arith, rest (fields c), rounds c .0)
 
 same-length : tie.Need-same-length
-same-length c = let s = c .before .before in filled-byte (filled s) 10 (ended s) .kept
+same-length c = filled c .kept
 
 returns : tie.Need-returns
 unfolding rowWith
 returns c =
-    let s = c .before .before in
-    let a = begin (numbered s) .args in
-    filled-is (rowWith (a .number) (a .word .now) (a .bound) (a .rounds)) (filled-byte (filled s) 10 (ended s)) (simp append-assoc)
+    let a = begin (numbered (fields c)) .args in
+    filled-done (rowWith (a .number) (a .word .now) (a .bound) (a .rounds)) (simp append-assoc) (filled c)
 
 pub put-all-spec : {M : Type 1} → statement M
 put-all-spec =
@@ -86,7 +99,9 @@ put-all-spec =
     (λ c κs. search needs)
     spaced-requires
     spaced-bound-requires
-    spaced-count-requires
+    (λ c κs. search needs)
+    (λ c κs. search needs)
+    add-d
     slice-write-out
     add-result
     same-length

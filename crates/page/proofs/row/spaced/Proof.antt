@@ -4,7 +4,7 @@ use mathlib.Core.List.{_∷_, _++_}
 use native.Mathlib.Omega.{arith}
 use lib.ListN.{set, take, length-set}
 use Rattle.basics.proofs.FillLaws.{backAt, Filled}
-use Rattle.writing.proofs.WriteLaws.{filled-within, filled-field, put-is}
+use Rattle.put.proofs.PlaceLaws.{filled-within, filled-field, put-is}
 use borrow.Author.Needs.{needs}
 use Rattle.page.proofs.row.spaced.Statement.{statement}
 use Rattle.page.proofs.row.spaced.Tie as tie

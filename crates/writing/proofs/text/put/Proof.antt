@@ -4,7 +4,7 @@ use mathlib.Core.List.{_++_}
 use native.Mathlib.Omega.{arith}
 use lib.ListN.{take}
 use Rattle.basics.proofs.FillLaws.{backAt, Filled}
-use Rattle.writing.proofs.WriteLaws.{filled-here, filled-within, filled-put, put-is}
+use Rattle.put.proofs.PlaceLaws.{filled-here, filled-within, filled-put, put-is}
 use borrow.Author.Needs.{needs}
 use Rattle.writing.proofs.text.put.Statement.{statement}
 use Rattle.writing.proofs.text.put.Tie as tie

@@ -4,8 +4,10 @@ use native.Mathlib.Omega.{arith}
 use Rattle.basics.specs.Text.{bytes}
 use Rattle.basics.proofs.FillLaws.{filled-none}
 use Rattle.put.specs.Text.{timeText}
+use Rattle.put.proofs.OutputLaws.{filled-done}
+use Rattle.put.proofs.PlaceLaws.{filled-at}
 use Rattle.writing.specs.Write.{timesText}
-use Rattle.writing.proofs.WriteLaws.{filled-at, filled-is, times-length}
+use Rattle.writing.proofs.WriteLaws.{times-length}
 use borrow.Author.Needs.{needs}
 use Rattle.writing.proofs.text.put_line.Statement.{statement}
 use Rattle.writing.proofs.text.put_line.Tie as tie
@@ -34,7 +36,7 @@ returns c =
     let f₂ = filled-at f₁ (32 ∷ timeText (a .x .period)) (t .spaced-time .kept .0) (t .spaced-time .ensures) in
     let f₃ = filled-at f₂ (32 ∷ timeText (a .x .run)) (r .spaced-time2 .kept .0) (r .spaced-time2 .ensures) in
     let f₄ = filled-at f₃ (32 ∷ timeText (a .x .deadline)) (d .spaced-time3 .kept .0) (d .spaced-time3 .ensures) in
-    filled-is (timesText (a .x)) (filled-at f₄ (bytes "\n") (e .put2 .kept .0) (e .put2 .ensures)) (simp append-assoc)
+    filled-done (timesText (a .x)) (simp append-assoc) (filled-at f₄ (bytes "\n") (e .put2 .kept .0) (e .put2 .ensures))
 
 pub put-line-spec : {M : Type 1} → statement M
 put-line-spec =

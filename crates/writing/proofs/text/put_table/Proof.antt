@@ -8,9 +8,11 @@ use Rattle.basics.specs.Over.{joinTo}
 use Rattle.basics.specs.Text.{bytes}
 use Rattle.basics.proofs.FillLaws.{Filled, filled-none, rest-length}
 use Rattle.put.specs.Text.{countText}
+use Rattle.put.proofs.OutputLaws.{filled-done}
+use Rattle.put.proofs.PlaceLaws.{PutAt, filled-at, at-all}
 use Rattle.table.proofs.Acceptance.{fine-accepted}
 use Rattle.writing.specs.Write.{textOf}
-use Rattle.writing.proofs.WriteLaws.{filled-at, filled-is, filled-first, next-room, filled-next, cpusText, linesOf, cpus-length}
+use Rattle.writing.proofs.WriteLaws.{filled-first, next-room, filled-next, cpusText, linesOf, cpus-length}
 use borrow.Author.Needs.{needs}
 use Rattle.writing.proofs.text.put_table.Statement.{statement}
 use Rattle.writing.proofs.text.put_table.Tie as tie
@@ -31,18 +33,30 @@ first-room s =
     let t = s .args .t2 in
     omega (arith, s .pre .1, cpus-length t, length-append (cpusText t) (joinTo (t .n) (linesOf t)))
 
+-- the number of processors
+abbrev begin : tie.After-length Inv-loop μ-loop → tie.Start Inv-loop μ-loop
+begin c = c .before .before .before .before .before .before .before .before .before .before .before
+
+numbered : (c : tie.After-length Inv-loop μ-loop) → let m = c .before .before .before in let w = m .before .before .before .before .put in
+    PutAt (32 ∷ countText (begin c .args .t2 .cpus)) (w .result) (w .result + c .length .result) (w .last .0) (m .spaced-count .last .0)
+numbered c =
+    let m = c .before .before .before in
+    let w = m .before .before .before .before .put in
+    at-all (32 ∷ countText (begin c .args .t2 .cpus)) (w .last .0) (w .result) (omega (arith, first-room (begin c), w .kept .0)) (c .length .ensures) (m .spaced-count .ensures)
+
 abbrev start : tie.At-loop Inv-loop μ-loop → tie.Start Inv-loop μ-loop
-start l = l .before .before .before .before .before .before .before .before .before .before .before .before .before .before .before .before
+start l = begin (l .before .before .before .before .before .before)
 
 filled : (l : tie.At-loop Inv-loop μ-loop) → let a = start l .args in
     Filled (a .out .now) (l .loop .out) (cpusText (a .t2) ++ joinTo (l .loop .i) (linesOf (a .t2))) (l .loop .at)
 filled l =
     let e = l .before .before .before in
-    let m = e .before .before .before .before .before in
+    let k = e .before .before .before in
+    let m = k .before .before .before in
     let w = m .before .before .before .before in
-    let a = w .before .before .before .before .args in
+    let a = begin k .args in
     let f₁ = filled-at (filled-none (a .out .now)) (bytes "cpus") (w .put .kept .0) (w .put .ensures) in
-    let f₂ = filled-at f₁ (32 ∷ countText (a .t2 .cpus)) (m .spaced-count .kept .0) (m .spaced-count .ensures) in
+    let f₂ = filled-at f₁ (32 ∷ countText (a .t2 .cpus)) (m .spaced-count .kept .0) (numbered k) in
     l .loop .inv .1 (a .out .now) (filled-at f₂ (bytes "\n") (e .put2 .kept .0) (e .put2 .ensures))
 
 -- there is room for the next task's lines
@@ -57,15 +71,15 @@ room c =
 put-requires : tie.Need-put-requires Inv-loop μ-loop
 put-requires c κs = omega (arith, first-room (c .before .before .before))
 
-spaced-count-requires : tie.Need-spaced-count-requires Inv-loop μ-loop
-spaced-count-requires c κs = omega (arith, first-room (c .before .before .before .before .before .before .before))
+add-b : tie.Need-add-b Inv-loop μ-loop
+add-b c = omega (arith, first-room (begin c), numbered c .0)
 
 put-requires-2 : tie.Need-put-requires-2 Inv-loop μ-loop
-put-requires-2 c κs = omega (arith, first-room (c .before .before .before .before .before .before .before .before .before .before .before .before))
+put-requires-2 c κs = let k = c .before .before in omega (arith, first-room (begin k), numbered k .0)
 
 loop-holds : tie.Need-loop-holds Inv-loop μ-loop
 loop-holds c =
-    let t = c .before .before .before .before .before .before .before .before .before .before .before .before .before .before .before .args .t2 in
+    let t = begin (c .before .before .before .before .before) .args .t2 in
     (omega arith, λ o q. filled-first (cpusText t) (linesOf t) q)
 
 mul-x : tie.Need-mul-x Inv-loop μ-loop
@@ -105,7 +119,7 @@ unfolding textOf
 returns c =
     let t = start (c .before) .args .t2 in
     let e : c .before .loop .i ≡ t .n = omega arith in
-    filled-is (textOf t) (filled (c .before)) (ap (λ (k : ℕ). cpusText t ++ joinTo k (linesOf t)) e)
+    filled-done (textOf t) (ap (λ (k : ℕ). cpusText t ++ joinTo k (linesOf t)) e) (filled (c .before))
 
 pub put-table-spec : {M : Type 1} → statement M
 put-table-spec =
@@ -115,7 +129,9 @@ put-table-spec =
     μ-loop
     (λ c. search needs)
     put-requires
-    spaced-count-requires
+    (λ c κs. search needs)
+    (λ c κs. search needs)
+    add-b
     (λ c. search needs)
     put-requires-2
     loop-holds

@@ -6,8 +6,9 @@ use native.Mathlib.Omega.{arith}
 use lib.ListN.{length, length-append}
 use Rattle.basics.specs.Over.{joinTo}
 use Rattle.basics.proofs.FillLaws.{Filled, rest-length}
+use Rattle.put.proofs.OutputLaws.{filled-text, filled-done}
 use Rattle.writing.specs.Write.{timesText, pairText, taskText}
-use Rattle.writing.proofs.WriteLaws.{filled-by, filled-first, filled-is, next-room, filled-next}
+use Rattle.writing.proofs.WriteLaws.{filled-first, next-room, filled-next}
 use borrow.Author.Needs.{needs}
 use Rattle.writing.proofs.text.put_task.Statement.{statement}
 use Rattle.writing.proofs.text.put_task.Tie as tie
@@ -23,7 +24,7 @@ filled : (l : tie.At-loop Inv-loop μ-loop) → let a = l .before .before .befor
     Filled (a .out .now) (l .loop .out) (timesText (a .t2) ++ joinTo (l .loop .k) (pairText (a .t2))) (l .loop .at)
 filled l =
     let p = l .before .before .before in
-    l .loop .inv .1 (p .before .before .before .args .out .now) (filled-by (p .put-line .kept .0) (p .put-line .ensures))
+    l .loop .inv .1 (p .before .before .before .args .out .now) (filled-text _ (p .put-line .kept .0) (p .put-line .ensures))
 
 -- there is room for the next pair's line
 room : (c : tie.After-p Inv-loop μ-loop) → let l = c .before .before in
@@ -78,7 +79,7 @@ returns : tie.Need-returns Inv-loop μ-loop
 unfolding taskText
 returns c =
     let e : c .before .loop .k ≡ 16 = omega arith in
-    filled-is (taskText (c .before .before .before .before .before .before .before .args .t2)) (filled (c .before)) (rw e)
+    filled-done (taskText (c .before .before .before .before .before .before .before .args .t2)) (rw e) (filled (c .before))
 
 pub put-task-spec : {M : Type 1} → statement M
 put-task-spec =

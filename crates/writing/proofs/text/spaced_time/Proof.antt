@@ -5,7 +5,7 @@ use native.Mathlib.Omega.{arith}
 use lib.ListN.{set, take, length-set}
 use Rattle.basics.proofs.FillLaws.{backAt, Filled}
 use Rattle.put.specs.Text.{timeText}
-use Rattle.writing.proofs.WriteLaws.{filled-within, filled-field, put-is}
+use Rattle.put.proofs.PlaceLaws.{filled-within, filled-field, put-is}
 use borrow.Author.Needs.{needs}
 use Rattle.writing.proofs.text.spaced_time.Statement.{statement}
 use Rattle.writing.proofs.text.spaced_time.Tie as tie
