@@ -5,6 +5,8 @@ ghost use Rattle.table.specs.declared.Checked.the-variants.{Fine};
 ghost use Rattle.table.specs.Faults.{at};
 ghost use Rattle.table.specs.Limits.{maxTasks};
 ghost use Rattle.table.specs.Rules.{tableFault};
+ghost use Rattle.theory.specs.View.{level};
+ghost use Rattle.theory.specs.Tables.{countedIn};
 ghost use Rattle.analysis.specs.Answers.{askedFault, allowanceFault, rowFault, boundFault, boundOf, analysisFault, recordCount, recordOf, analysed, FillsRow};
 use rounds::Outcome;
 use table::Checked;
@@ -34,26 +36,33 @@ pub struct Analysis {
     pub rows: [Record; Table::MAX_TASKS],
 }
 
-// The record of the task at slot i of a table that nothing is said against, so many rounds being allowed.
-fn record_at(t: Table, allowance: u32, i: usize) -> Record
+// The verdict on the task at slot i of a table that nothing is said against, and its rounds, so many of them allowed.
+fn counted_at(t: Table, allowance: u32, i: usize) -> Counted
     requires { ⌜ (tableFault t ≡ Fine) × (i < t .n) ⌝ }
-    ensures { λ r. ⌜ r ≡ recordOf t allowance i ⌝ }
+    ensures { λ r. ⌜ r ≡ countedIn t allowance (level i) ⌝ }
 {
     let a = t.tasks[i];
-    let number = (i + 1) as u32;
-    let task = Level(number);
     let s = shares::shares_of(t, i);
     let Outcome::Of(x) = rounds::outcome_of(s, a.deadline, allowance) else {
         // the shares of an accepted table are sound: this is never reached
-        return Record {
-            task,
+        return Counted {
             verdict: Verdict::Misses,
             rounds: 0,
         };
     };
+    x
+}
+
+// The same as a record of the row.
+fn record_at(t: Table, allowance: u32, i: usize) -> Record
+    requires { ⌜ (tableFault t ≡ Fine) × (i < t .n) ⌝ }
+    ensures { λ r. ⌜ r ≡ recordOf t allowance i ⌝ }
+{
+    let number = (i + 1) as u32;
+    let x = counted_at(t, allowance, i);
     let verdict = x.verdict;
     Record {
-        task,
+        task: Level(number),
         verdict,
         rounds: x.rounds,
     }
@@ -117,12 +126,7 @@ pub fn bound(t: Table, task: Level, allowance: u32) -> Answer
         return Answer::Unknown(r);
     }
     let number = task.0 as usize;
-    let x = record_at(t, allowance, number - 1);
-    let verdict = x.verdict;
-    Answer::Known(Counted {
-        verdict,
-        rounds: x.rounds,
-    })
+    Answer::Known(counted_at(t, allowance, number - 1))
 }
 
 // What is said against a table, an allowance and a row of so many records.

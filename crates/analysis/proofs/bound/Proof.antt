@@ -1,12 +1,11 @@
--- `analysis::bound` meets its contract. What `judge_task` says decides, and then the verdict and its rounds are the callee's at the task's slot. Assumes nothing.
+-- `analysis::bound` meets its contract. What `judge_task` says decides, and then the answer is the callee's at the task's slot. Assumes nothing.
 use mathlib.Core.Path.{_≡_, _∙_, sym, ap}
 use Prim.Native.Nat.{ℕ, suc, _-_}
 use native.Mathlib.Omega.{arith}
 use Rattle.table.specs.declared.Checked.the-variants.{Fine}
 use Rattle.theory.specs.Tables.{countedIn}
-use Rattle.analysis.specs.declared.Record.{Record}
 use Rattle.analysis.specs.declared.Answer.the-variants.{Known}
-use Rattle.analysis.specs.Answers.{boundFault, boundOf, recordOf}
+use Rattle.analysis.specs.Answers.{boundFault, boundOf}
 use Rattle.analysis.proofs.RowLaws.{asked}
 use borrow.Author.Needs.{needs}
 use Rattle.analysis.proofs.bound.Statement.{statement}
@@ -21,24 +20,22 @@ returns c =
 fine : (c : tie.After-enum-told) → let a = c .before .before .before .args in boundFault (a .t) (a .task) (a .allowance) ≡ Fine
 fine c = sym (c .before .before .judge-task .ensures) ∙ c .enum-told .given .1
 
-sub-record-at : tie.Need-sub-record-at
-sub-record-at c = omega (arith, asked _ _ _ (fine (c .before)) .1)
+sub-counted-at : tie.Need-sub-counted-at
+sub-counted-at c = omega (arith, asked _ _ _ (fine (c .before)) .1)
 
-record-at-requires : tie.Need-record-at-requires
-record-at-requires c κs =
+counted-at-requires : tie.Need-counted-at-requires
+counted-at-requires c κs =
     let f = asked _ _ _ (fine (c .before)) in
     (f .0, omega (arith, f .1, f .2))
 
 -- a task's number is one more than its slot
 returns-2 : tie.Need-returns-2
-unfolding boundOf recordOf
+unfolding boundOf
 returns-2 c =
     let e = c .before .before in
     let a = e .before .before .before .args in
     let slot : suc (a .task .0 - 1) ≡ a .task .0 = omega (arith, asked _ _ _ (fine e) .1) in
-    rw (fine e)
-    (ap Known (ap (λ (r : Record). record { verdict = r .verdict; rounds = r .rounds }) (c .record-at .ensures)
-    ∙ ap (λ (n : ℕ). countedIn (a .t) (a .allowance) (record { 0 = n })) slot))
+    rw (fine e) (ap Known (c .counted-at .ensures ∙ ap (λ (n : ℕ). countedIn (a .t) (a .allowance) (record { 0 = n })) slot))
 
 pub bound-spec : {M : Type 1} → statement M
 bound-spec =
@@ -49,6 +46,6 @@ bound-spec =
     returns
     (λ c. search needs)
     (λ c. search needs)
-    sub-record-at
-    record-at-requires
+    sub-counted-at
+    counted-at-requires
     returns-2)

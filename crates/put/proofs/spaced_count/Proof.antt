@@ -6,7 +6,7 @@ use native.Mathlib.Omega.{arith}
 use borrow.Author.Needs.{needs}
 use lib.ListN.{set, take, length-set}
 use lib.Seq.{append-snoc}
-use Rattle.basics.proofs.FillLaws.{backAt, rest-length, Filled, filled-byte, filled-part}
+use Rattle.basics.proofs.FillLaws.{restAt, backAt, rest-length, Filled, filled-byte, filled-part}
 use Rattle.put.specs.Text.{countText}
 use Rattle.put.proofs.TextLaws.{count-length, count-filled}
 use Rattle.put.proofs.PlaceLaws.{filled-here, at-short, at-filled}
@@ -30,7 +30,7 @@ filled : (c : tie.After-put-digits) → let w = c .before .before .before .befor
 filled c =
     let w = c .before .before .before .before in
     let a = w .before .before .args in
-    let d = count-filled (a .n) (w .width-of .ensures) (c .put-digits .ensures) (c .put-digits .kept .0) in
+    let d = count-filled (a .n) {o = restAt (set (a .out .now) (a .at) 32) (a .at + 1)} (w .width-of .ensures) (c .put-digits .ensures) (c .put-digits .kept .0) in
     rw (← append-snoc)
     (filled-part (filled-byte (filled-here (a .out .now) (a .at) (omega arith)) 32 (omega arith)) (countText (a .n)) (omega arith) (sym (d .long)) (d .kept) (d .holds))
 
