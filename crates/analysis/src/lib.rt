@@ -53,7 +53,7 @@ fn counted_at(t: Table, allowance: u32, i: usize) -> Counted
     x
 }
 
-// The same as a record of the row.
+// The same, as a record of the row.
 fn record_at(t: Table, allowance: u32, i: usize) -> Record
     requires { ⌜ (tableFault t ≡ Fine) × (i < t .n) ⌝ }
     ensures { λ r. ⌜ r ≡ recordOf t allowance i ⌝ }

@@ -196,7 +196,7 @@ pub fn put_time(out: &mut [u8], us: u32) -> Put
     Put::Wrote(n)
 }
 
-// A space and a count, at a place of out.
+// A space and a count, at a place of out. The place may be any number: the tests add nothing to it.
 pub fn spaced_count(out: &mut [u8], at: usize, n: u32) -> Put
     ensures { λ r. ⌜ (r ≡ putAnswerAt (32 ∷ countText n) at (now (out .entry))) × (now (out .exit) ≡ putAt (32 ∷ countText n) at (now (out .entry))) ⌝ }
 {
