@@ -16,12 +16,11 @@ use Rattle.table.specs.declared.Checked.{Checked}
 use Rattle.table.specs.declared.Checked.the-variants.{Fine, Refused}
 use Rattle.table.specs.Faults.{Refuses}
 use Rattle.table.proofs.FirstDecides.{fails, failing}
-use Rattle.field.specs.declared.Rounding.the-variants.{Down, Up}
 use Rattle.line.specs.declared.Past.{Past}
 use Rattle.line.specs.declared.Said.{Said}
 use Rattle.line.specs.declared.Said.the-variants.{Not}
 use Rattle.line.specs.Fields.{form}
-use Rattle.line.specs.Line.{_gives_, cpusLine, taskLine, useLine, countIn, timeIn, lineSays}
+use Rattle.line.specs.Line.{_gives_, cpusLine, taskLine, useLine, lineSays}
 use Rattle.line.specs.Stated.{Without, IsLine}
 use Rattle.line.specs.Refusals.{LineCallsFor, SaysNot, LineRefused}
 use Rattle.line.proofs.WordLaws.{form-line, line-fields, line-form, form-other}

@@ -20,6 +20,8 @@ use Rattle.field.proofs.FirstField.{time-first, count-first}
 use Rattle.field.proofs.ReadAs.{time-width, count-width}
 use Rattle.line.specs.declared.FieldKind.{FieldKind}
 use Rattle.line.specs.declared.FieldKind.the-variants.{Count, TimeDown, TimeUp}
+use Rattle.line.specs.declared.Placed.{Placed}
+use Rattle.line.specs.declared.Placed.the-variants.{Number, NoNumber}
 use Rattle.line.specs.Fields.{others, fields, filled, fieldCount, same, form}
 use Rattle.line.specs.Places.{fieldAs, placed}
 
@@ -110,11 +112,11 @@ pub record States (kind : FieldKind) (s : List ℕ) (k v : ℕ) : Type 0 where
   pub width : ℕ
   pub says : fieldAs kind (getD (fields s) k []) ≡ Value v width
 
-placed-bad : (p : ℕ) (x : Field) → placed p x ≡ Bad → x ≡ Bad
+placed-bad : (p : ℕ) (x : Field) → placed p x ≡ NoNumber → x ≡ Bad
 placed-bad p (Value v n) e = let z : _≡_ {A = ℕ} 0 1 = cc in absurd (omega arith)
 placed-bad p Bad e = refl
 
-placed-value : (p : ℕ) (x : Field) (v q : ℕ) → placed p x ≡ Value v q → (n : ℕ) × ((x ≡ Value v n) × (q ≡ p + n + 1))
+placed-value : (p : ℕ) (x : Field) (v q : ℕ) → placed p x ≡ Number v q → (n : ℕ) × ((x ≡ Value v n) × (q ≡ p + n + 1))
 placed-value p (Value u n) v q e = (n, (cc, cc))
 placed-value p Bad v q e = let z : _≡_ {A = ℕ} 0 1 = cc in absurd (omega arith)
 
@@ -123,15 +125,15 @@ module _ (kind : FieldKind) {s : List ℕ} {k p : ℕ} where
   at-field : {m : ℕ} → Begins s k m p → fieldAs kind (drop p s) ≡ fieldAs kind (getD (fields s) k [])
   at-field {m} b = sym (as-alone kind (drop p s)) ∙ ap (fieldAs kind) (here s k m p b)
 
-  pub bad-field : {m : ℕ} {a : Field} → Begins s k m p → a ≡ placed p (fieldAs kind (drop p s)) → a ≡ Bad → fieldAs kind (getD (fields s) k []) ≡ Bad
+  pub bad-field : {m : ℕ} {a : Placed} → Begins s k m p → a ≡ placed p (fieldAs kind (drop p s)) → a ≡ NoNumber → fieldAs kind (getD (fields s) k []) ≡ Bad
   bad-field b e g = sym (at-field b) ∙ placed-bad p (fieldAs kind (drop p s)) (sym e ∙ g)
 
-  pub states : {m v q : ℕ} {a : Field} → Begins s k m p → a ≡ placed p (fieldAs kind (drop p s)) → a ≡ Value v q → States kind s k v
+  pub states : {m v q : ℕ} {a : Placed} → Begins s k m p → a ≡ placed p (fieldAs kind (drop p s)) → a ≡ Number v q → States kind s k v
   states {v = v} {q = q} b e g =
       let r = placed-value p (fieldAs kind (drop p s)) v q (sym e ∙ g) in
       record { width = r .0; says = sym (at-field b) ∙ r .1 .0 }
 
-  pub steps : {m v q : ℕ} {a : Field} → Begins s k (suc m) p → a ≡ placed p (fieldAs kind (drop p s)) → a ≡ Value v q
+  pub steps : {m v q : ℕ} {a : Placed} → Begins s k (suc m) p → a ≡ placed p (fieldAs kind (drop p s)) → a ≡ Number v q
       → States kind s k v × Begins s (suc k) m q
   steps {m} {v} {q} b e g =
       let r = placed-value p (fieldAs kind (drop p s)) v q (sym e ∙ g) in

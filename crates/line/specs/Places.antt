@@ -7,6 +7,8 @@ use Rattle.field.specs.declared.Rounding.the-variants.{Down, Up}
 use Rattle.field.specs.Number.{timeField, countField}
 use Rattle.line.specs.declared.FieldKind.{FieldKind}
 use Rattle.line.specs.declared.FieldKind.the-variants.{Count, TimeDown, TimeUp}
+use Rattle.line.specs.declared.Placed.{Placed}
+use Rattle.line.specs.declared.Placed.the-variants.{Number, NoNumber}
 
 -- a field read as one of this kind
 abbrev pub fieldAs : FieldKind → List ℕ → Field
@@ -14,7 +16,7 @@ fieldAs Count s = countField s
 fieldAs TimeDown s = timeField Down s
 fieldAs TimeUp s = timeField Up s
 
--- the answer to a field that begins at a place, with the place where the next one begins in place of the field's width
-abbrev pub placed : ℕ → Field → Field
-placed at (Value v width) = Value v (at + width + 1)
-placed at Bad = Bad
+-- the number of a field that begins at a place, and where the next one begins
+abbrev pub placed : ℕ → Field → Placed
+placed at (Value v width) = Number v (at + width + 1)
+placed at Bad = NoNumber

@@ -4,7 +4,6 @@ use Prim.Native.Nat.{ℕ, _+_, _≤_, _<_}
 use mathlib.Core.Path.{_≡_}
 use mathlib.Core.List.{List, [], _∷_}
 use Rattle.basics.specs.Exactly.{_exactly-if_}
-use Rattle.table.specs.declared.Pair.{Pair}
 use Rattle.table.specs.declared.Refusal.{Refusal}
 use Rattle.table.specs.Limits.{maxCpus, maxTasks, maxResources}
 use Rattle.table.specs.At.{aPair}

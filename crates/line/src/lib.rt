@@ -50,6 +50,12 @@ enum FieldKind {
     TimeUp,
 }
 
+// What stands at a place of a line: a number, and the place where the next field begins; or no number.
+enum Placed {
+    Number(u32, usize),
+    NoNumber,
+}
+
 // Line `number` is refused.
 fn refuse(fault: Fault, number: u32) -> Said
     ensures { λ r. ⌜ r ≡ Not (record { fault = fault; place = number }) ⌝ }
@@ -126,21 +132,21 @@ fn field_as(s: &[u8], kind: FieldKind) -> Field
 }
 
 // The number at a place of the line, with the place where the next field begins. No field begins past 64: the fields before it are short.
-fn field_at(line: &[u8], at: usize, kind: FieldKind) -> Field
+fn field_at(line: &[u8], at: usize, kind: FieldKind) -> Placed
     requires { ⌜ at ≤ 64 ⌝ }
     ensures { λ r. ⌜ r ≡ placed at (fieldAs kind (drop at (now (line .entry)))) ⌝ }
 {
     if line.len() <= at {
-        return Field::Bad;
+        return Placed::NoNumber;
     }
     let Field::Value(v, width) = field_as(&line[at..], kind) else {
-        return Field::Bad;
+        return Placed::NoNumber;
     };
-    Field::Value(v, at + width + 1)
+    Placed::Number(v, at + width + 1)
 }
 
 // 4, of the number of processors.
-fn cpus_of(number: u32, m: u32) -> Said
+fn cpus_said(number: u32, m: u32) -> Said
     ensures { λ r. ⌜ r ≡ cpusLine number (Value m 0) ⌝ }
 {
     if !rules::in_range(m, Table::MAX_CPUS) {
@@ -163,7 +169,7 @@ fn room_after(tasks: usize, number: u32) -> Checked
 }
 
 // 8, then 4 and 5, of a task.
-fn task_of(past: Past, number: u32, period: u32, run: u32, deadline: u32) -> Said
+fn task_said(past: Past, number: u32, period: u32, run: u32, deadline: u32) -> Said
     ensures { λ r. ⌜ r ≡ taskLine past number (Value period 0) (Value run 0) (Value deadline 0) ⌝ }
 {
     let room = room_after(past.tasks, number);
@@ -175,7 +181,7 @@ fn task_of(past: Past, number: u32, period: u32, run: u32, deadline: u32) -> Sai
 }
 
 // 4, 6, then 7, of a pair in use.
-fn use_of(past: Past, number: u32, k: Resource, p: Pair) -> Said
+fn use_said(past: Past, number: u32, k: Resource, p: Pair) -> Said
     ensures { λ r. ⌜ r ≡ useLine past number (Value (k .0) 0) (Value (p .requests) 0) (Value (p .longest) 0) (Value (p .total) 0) ⌝ }
 {
     if !rules::in_range(k.0, RESOURCES) {
@@ -198,10 +204,10 @@ fn cpus_line(number: u32, line: &[u8]) -> Said
     requires { ⌜ form (bytes "cpus") 2 (now line) ≡ true ⌝ }
     ensures { λ r. ⌜ r ≡ cpusLine number (countIn (now (line .entry)) 1) ⌝ }
 {
-    let Field::Value(m, _) = field_at(line, 5, FieldKind::Count) else {
+    let Placed::Number(m, _) = field_at(line, 5, FieldKind::Count) else {
         return refuse(Fault::BadField, number);
     };
-    cpus_of(number, m)
+    cpus_said(number, m)
 }
 
 // `task T C D`.
@@ -209,16 +215,16 @@ fn task_line(past: Past, number: u32, line: &[u8]) -> Said
     requires { ⌜ form (bytes "task") 4 (now line) ≡ true ⌝ }
     ensures { λ r. ⌜ r ≡ taskLine past number (timeIn Down (now (line .entry)) 1) (timeIn Up (now (line .entry)) 2) (timeIn Down (now (line .entry)) 3) ⌝ }
 {
-    let Field::Value(period, run_at) = field_at(line, 5, FieldKind::TimeDown) else {
+    let Placed::Number(period, run_at) = field_at(line, 5, FieldKind::TimeDown) else {
         return refuse(Fault::BadField, number);
     };
-    let Field::Value(run, deadline_at) = field_at(line, run_at, FieldKind::TimeUp) else {
+    let Placed::Number(run, deadline_at) = field_at(line, run_at, FieldKind::TimeUp) else {
         return refuse(Fault::BadField, number);
     };
-    let Field::Value(deadline, _) = field_at(line, deadline_at, FieldKind::TimeDown) else {
+    let Placed::Number(deadline, _) = field_at(line, deadline_at, FieldKind::TimeDown) else {
         return refuse(Fault::BadField, number);
     };
-    task_of(past, number, period, run, deadline)
+    task_said(past, number, period, run, deadline)
 }
 
 // `use K N c CT`.
@@ -226,19 +232,19 @@ fn use_line(past: Past, number: u32, line: &[u8]) -> Said
     requires { ⌜ form (bytes "use") 5 (now line) ≡ true ⌝ }
     ensures { λ r. ⌜ r ≡ useLine past number (countIn (now (line .entry)) 1) (countIn (now (line .entry)) 2) (timeIn Up (now (line .entry)) 3) (timeIn Up (now (line .entry)) 4) ⌝ }
 {
-    let Field::Value(k, requests_at) = field_at(line, 4, FieldKind::Count) else {
+    let Placed::Number(k, requests_at) = field_at(line, 4, FieldKind::Count) else {
         return refuse(Fault::BadField, number);
     };
-    let Field::Value(requests, longest_at) = field_at(line, requests_at, FieldKind::Count) else {
+    let Placed::Number(requests, longest_at) = field_at(line, requests_at, FieldKind::Count) else {
         return refuse(Fault::BadField, number);
     };
-    let Field::Value(longest, total_at) = field_at(line, longest_at, FieldKind::TimeUp) else {
+    let Placed::Number(longest, total_at) = field_at(line, longest_at, FieldKind::TimeUp) else {
         return refuse(Fault::BadField, number);
     };
-    let Field::Value(total, _) = field_at(line, total_at, FieldKind::TimeUp) else {
+    let Placed::Number(total, _) = field_at(line, total_at, FieldKind::TimeUp) else {
         return refuse(Fault::BadField, number);
     };
-    use_of(
+    use_said(
         past,
         number,
         Resource(k),

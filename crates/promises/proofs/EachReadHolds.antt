@@ -16,7 +16,7 @@ use Rattle.theory.specs.Demand.{sharedCT, otherCT, allCT, highCT, DB, S, O, F, 
 use Rattle.theory.specs.Rounds.{countedFrom}
 use Rattle.theory.specs.Tables.{viewOf}
 use Rattle.promises.specs.NoEasier.{Related}
-use Rattle.promises.specs.NotEmpty.{on, caseA}
+use Rattle.promises.specs.NotEmpty.{on, tasksA}
 use Rattle.promises.specs.Reads.{FigureKind, processors, tasks, run, deadline, requests, periodAbove, deadlineAbove, shared, other, free, periodBelow, deadlineBelow, high, longest, SameBut}
 use Rattle.promises.specs.EachRead.{Stays, Tells, TellsMiss, unlocked, lockApart, lockShared, EachRead}
 use Rattle.promises.proofs.AgreeByTest.{agreesOn, numbered, isSame, isSameBut, same-by, same-but-by, same-by-first}
@@ -72,7 +72,7 @@ each-read =
           };
       run-below = moves-by 2 2 (record { first = refl; second = refl; related = (lit< tt, only-run-by _ _ (level 1) refl) }) tt tt refl refl;
       begins =
-          moves-by 2 7 (record { first = refl; second = refl; related = where-read-by (viewOf unlocked) (viewOf (on 1 caseA)) (fine-fitting unlocked refl) (level 1) refl refl }) tt tt refl refl;
+          moves-by 2 7 (record { first = refl; second = refl; related = where-read-by (viewOf unlocked) (viewOf (on 1 tasksA)) (fine-fitting unlocked refl) (level 1) refl refl }) tt tt refl refl;
       lifts =
           moves-by 2 7
           (record { first = refl; second = refl; related = same-by-first (viewOf lockApart) (viewOf lockShared) (level 1) (fine-fitting lockApart refl) refl refl })

@@ -15,8 +15,8 @@ use Rattle.theory.specs.Demand.{allCT}
 use Rattle.theory.specs.Tables.{viewOf}
 use Rattle.theory.proofs.LeastLaws.{least-unique}
 use Rattle.analysis.proofs.ByRounds.{fine-runs}
-use Rattle.promises.specs.Words.{tableIn}
-use Rattle.promises.specs.NoEasier.{NoEasier, Related, KeepsBounds, Harder, Longer, LongerButFree, OneResult}
+use Rattle.promises.specs.Words.{readTable}
+use Rattle.promises.specs.NoEasier.{NoEasier, KeepsBounds, Harder, Longer, LongerButFree, OneResult}
 use Rattle.promises.specs.NotEmpty.{holding, holdingLonger}
 use Rattle.promises.proofs.NoEasierLaws.{Fits, no-easier-keeps}
 use Rattle.promises.proofs.NotEmptyHolds.{two-tasks, falls}
@@ -73,7 +73,7 @@ reading is a b r = one a b (record { first = r .first; second = r .second; relat
 -- the bound that the first would keep is at most 3,000, and its one bound is 5,000
 named : KeepsBounds LongerButFree → ⊥
 named keeps =
-    let k = keeps (tableIn holding) (tableIn holdingLonger) (falls .related) 1 two-tasks 3_000 (falls .after) in
+    let k = keeps (readTable holding) (readTable holdingLonger) (falls .related) 1 two-tasks 3_000 (falls .after) in
     omega (arith, k .2, least-unique _ _ _ _ (falls .before) (k .1))
 
 pub one-result : OneResult

@@ -9,7 +9,6 @@ use Rattle.basics.specs.Choice.{only}
 use Rattle.basics.proofs.ChoiceLaws.{only-below, only-le}
 use Rattle.basics.proofs.SumLaws.{sum-le, sum-some}
 use Rattle.basics.proofs.MaxLaws.{max-wider}
-use Rattle.table.specs.declared.Level.{Level}
 use Rattle.table.specs.declared.Resource.{Resource}
 use Rattle.table.specs.Limits.{maxResources}
 use Rattle.theory.specs.Work.{workload}

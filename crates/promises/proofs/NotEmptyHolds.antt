@@ -26,10 +26,10 @@ use Rattle.theory.specs.Tables.{viewOf}
 use Rattle.theory.proofs.WorkLaws.{workload-rises}
 use Rattle.theory.proofs.EndLaws.{Right}
 use Rattle.analysis.proofs.ByRounds.{by-rounds}
-use Rattle.promises.specs.Words.{tableIn}
+use Rattle.promises.specs.Words.{readTable}
 use Rattle.promises.specs.Demand2.{demandIn, runIn, deadlineIn}
 use Rattle.promises.specs.NoEasier.{Compared, LongerButFree, Related}
-use Rattle.promises.specs.NotEmpty.{on, Moves, Lost, holding, holdingLonger, HarderShown, LongerShown, BothShown, NotEmpty}
+use Rattle.promises.specs.NotEmpty.{on, Moves, Lost, holding, holdingLonger, NotEmpty}
 use Rattle.promises.proofs.ComparedByTest.{Tested, at-most, equal, any, rules, isCompared, compared-by}
 
 -- the rounds of the task in slot i, so many of them allowed
@@ -60,11 +60,11 @@ module _ {rest run free : ℕ → ℕ → Type 0} (p : Tested rest) (q : Tested 
       → countedAt a i j ≡ record { verdict = Meets u; rounds = j } → countedAt b i k ≡ record { verdict = Misses; rounds = k } → Lost (Compared rest run free) a b i u
   lost j k e f h l m c d = lost-by j k (related-by e f h) l m c d
 
-pub two-tasks : 1 < tableIn holding .n
+pub two-tasks : 1 < readTable holding .n
 unfolding sumTo emptyTask emptyTable firstFault timesInRange timesInOrder timesFault isUnused usedInRange pairInRange totalsFit pairFault rounded fraction timeField countField width countText fieldCount cpusLine taskLine useLine lineSays pastAfter newTask tableAfter readEnd readLines readListing
 two-tasks = lit< tt
 
-pub falls : Moves LongerButFree (tableIn holding) (tableIn holdingLonger) 1 5_000 3_000
+pub falls : Moves LongerButFree (readTable holding) (readTable holdingLonger) 1 5_000 3_000
 unfolding allTo rules sumTo maxTo firstTo emptyTask emptyTable firstFault timesInRange timesInOrder timesFault isUnused usedInRange pairInRange totalsFit pairFault pairsFault taskFault tasksFault tableFault rounded fraction timeField countField width countText fieldCount cpusLine taskLine useLine lineSays pastAfter newTask tableAfter readEnd readLines readListing uncapped workload jobs ceilDiv ceiling sharedCT otherCT allCT highCT DB S O F L demandWith countedFrom
 falls = moves equal at-most any 3 3 refl refl refl tt tt refl refl
 

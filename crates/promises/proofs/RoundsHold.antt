@@ -33,7 +33,7 @@ use Rattle.page.proofs.Reports.{report-accepted}
 use Rattle.meaning.proofs.Meaning.{passes-check}
 use Rattle.promises.specs.Demand2.{deadlineIn, runIn, CountIn}
 use Rattle.promises.specs.NoEasier.{NoEasier, Related}
-use Rattle.promises.specs.NotEmpty.{on, caseA}
+use Rattle.promises.specs.NotEmpty.{on, tasksA}
 use Rattle.promises.specs.Rounds.{RightRounds, PrintsRows, KeptInPrint, Overtakes, Rounds}
 use Rattle.promises.proofs.Demand2Holds.{demand2}
 use Rattle.promises.proofs.ThreeTasks.{some-allowed}
@@ -98,7 +98,7 @@ printed s s' a b e f r =
           (k .0, ap (λ (c : Counted). c .verdict) (known a i reportAllowance (k .2) .3), k .3);
     }
 
-overtakes : Overtakes (on 2 caseA) (on 1 caseA) 2 benchAllowance 22_000 4
+overtakes : Overtakes (on 2 tasksA) (on 1 tasksA) 2 benchAllowance 22_000 4
 unfolding benchAllowance on allTo rules sumTo maxTo firstTo firstFault timesInRange timesInOrder timesFault isUnused usedInRange pairInRange totalsFit pairFault pairsFault taskFault tasksFault tableFault uncapped workload jobs ceilDiv ceiling sharedCT otherCT allCT highCT DB S O F L demandWith countedFrom countedIn
 overtakes =
     record {

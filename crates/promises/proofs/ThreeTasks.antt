@@ -17,17 +17,17 @@ use Rattle.theory.specs.Tables.{countedIn}
 use Rattle.analysis.proofs.ByRounds.{under-more}
 use Rattle.page.specs.Report.{reportAllowance, header, rowText, pageText, reportText}
 use Rattle.page.proofs.Reports.{report-accepted}
-use Rattle.promises.specs.Words.{tableIn}
+use Rattle.promises.specs.Words.{readTable}
 
 abbrev row : ℕ → Counted → List ℕ
 row number r = rowText number (r .verdict) (r .rounds)
 
-pub three : (allowance : ℕ) (s : String) (a b c : Counted) → 1 ≤ allowance → readListing (bytes s) .answer ≡ Fine → tableIn s .n ≡ 3
-    → countedIn (tableIn s) allowance (level 0) ≡ a → countedIn (tableIn s) allowance (level 1) ≡ b → countedIn (tableIn s) allowance (level 2) ≡ c
+pub three : (allowance : ℕ) (s : String) (a b c : Counted) → 1 ≤ allowance → readListing (bytes s) .answer ≡ Fine → readTable s .n ≡ 3
+    → countedIn (readTable s) allowance (level 0) ≡ a → countedIn (readTable s) allowance (level 1) ≡ b → countedIn (readTable s) allowance (level 2) ≡ c
     → reportText allowance (bytes s) ≡ header ++ ((row 1 a ++ row 2 b) ++ row 3 c)
 unfolding pageText joinTo
 three allowance s a b c h e n p q r =
-    report-accepted allowance (bytes s) (tableIn s) h (λ j. record { answer = e j; table = tableIn s })
+    report-accepted allowance (bytes s) (readTable s) h (λ j. record { answer = e j; table = readTable s })
     ∙ rw (n, p, q, r)
 
 -- a bound, or a miss, after k rounds
@@ -39,13 +39,13 @@ missed k = record { verdict = Misses; rounds = k }
 
 -- what comes after k rounds comes under the allowance of `report`, if that is no less
 module _ (s : String) (i k : ℕ) (h : T (leb k 10_000_000)) where
-  pub meets-in : {u : ℕ} → countedIn (tableIn s) k (level i) ≡ met u k → countedIn (tableIn s) reportAllowance (level i) ≡ met u k
+  pub meets-in : {u : ℕ} → countedIn (readTable s) k (level i) ≡ met u k → countedIn (readTable s) reportAllowance (level i) ≡ met u k
   unfolding reportAllowance
-  meets-in e = under-more (tableIn s) i k reportAllowance (leb→le k _ h) e (λ o. let z : _≡_ {A = ℕ} 0 1 = cc in absurd (omega arith))
+  meets-in e = under-more (readTable s) i k reportAllowance (leb→le k _ h) e (λ o. let z : _≡_ {A = ℕ} 0 1 = cc in absurd (omega arith))
 
-  pub misses-in : countedIn (tableIn s) k (level i) ≡ missed k → countedIn (tableIn s) reportAllowance (level i) ≡ missed k
+  pub misses-in : countedIn (readTable s) k (level i) ≡ missed k → countedIn (readTable s) reportAllowance (level i) ≡ missed k
   unfolding reportAllowance
-  misses-in e = under-more (tableIn s) i k reportAllowance (leb→le k _ h) e (λ o. let z : _≡_ {A = ℕ} 0 1 = cc in absurd (omega arith))
+  misses-in e = under-more (readTable s) i k reportAllowance (leb→le k _ h) e (λ o. let z : _≡_ {A = ℕ} 0 1 = cc in absurd (omega arith))
 
 pub some-allowed : 1 ≤ reportAllowance
 unfolding reportAllowance

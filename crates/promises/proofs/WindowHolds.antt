@@ -27,7 +27,7 @@ use Rattle.theory.proofs.WorkLaws.{uncapped-rises, workload-window, workload-le
 use Rattle.theory.proofs.BoundLaws.{capped-keeps}
 use Rattle.analysis.proofs.ByRounds.{fine-runs, by-rounds}
 use Rattle.page.specs.Report.{reportAllowance, rowWith, rowText}
-use Rattle.promises.specs.Words.{tableIn}
+use Rattle.promises.specs.Words.{readTable}
 use Rattle.promises.specs.Demand2.{demandIn, deadlineIn}
 use Rattle.promises.specs.Window.{uncappedDemandIn, Window, before, shortened, relaxed, Story}
 use Rattle.promises.proofs.ThreeTasks.{three, met, meets-in, some-allowed}
@@ -57,10 +57,10 @@ pub story-holds : Story
 unfolding sumTo maxTo firstTo emptyTask emptyTable firstFault timesInRange timesInOrder timesFault isUnused usedInRange pairInRange totalsFit pairFault pairsFault taskFault tasksFault tableFault rounded fraction timeField countField width countText fieldCount cpusLine taskLine useLine lineSays pastAfter newTask tableAfter readEnd readLines readListing uncapped workload jobs ceilDiv ceiling sharedCT otherCT allCT highCT DB S O F L demandWith countedFrom countedIn rowWith rowText
 story-holds =
     record {
-      met = by-rounds uncapped uncapped-rises (tableIn before) 2 refl (lit< tt) 13 {v = Meets 4_000} refl;
-      missed = by-rounds uncapped uncapped-rises (tableIn shortened) 2 refl (lit< tt) 3 {v = Misses} refl;
+      met = by-rounds uncapped uncapped-rises (readTable before) 2 refl (lit< tt) 13 {v = Meets 4_000} refl;
+      missed = by-rounds uncapped uncapped-rises (readTable shortened) 2 refl (lit< tt) 3 {v = Misses} refl;
       meets = three reportAllowance before (met 1_000 1) (met 6_000 1) (met 4_000 13) some-allowed refl refl (meets-in before 0 1 tt refl) (meets-in before 1 1 tt refl) (meets-in before 2 13 tt refl);
       still-meets = three reportAllowance shortened (met 1_000 1) (met 5_000 1) (met 4_000 13) some-allowed refl refl (meets-in shortened 0 1 tt refl) (meets-in shortened 1 1 tt refl) (meets-in shortened 2 13 tt refl);
-      met-late = by-rounds uncapped uncapped-rises (tableIn relaxed) 2 refl (lit< tt) 14 {v = Meets 5_000} refl;
+      met-late = by-rounds uncapped uncapped-rises (readTable relaxed) 2 refl (lit< tt) 14 {v = Meets 5_000} refl;
       meets-earlier = three reportAllowance relaxed (met 1_000 1) (met 5_000 1) (met 4_000 13) some-allowed refl refl (meets-in relaxed 0 1 tt refl) (meets-in relaxed 1 1 tt refl) (meets-in relaxed 2 13 tt refl);
     }

@@ -18,7 +18,7 @@ use Rattle.analysis.specs.Answers.{boundOf}
 use Rattle.page.specs.Report.{reportAllowance, benchAllowance, rowText, pageText, reportText}
 use Rattle.promises.specs.Demand2.{demandIn, runIn, deadlineIn, CountIn}
 use Rattle.promises.specs.NoEasier.{NoEasier, Harder, Related}
-use Rattle.promises.specs.NotEmpty.{on, caseA}
+use Rattle.promises.specs.NotEmpty.{on, tasksA}
 
 -- the round at the length after k rounds is the last: the length "repeats or passes D"
 abbrev pub LastIn : Table → ℕ → ℕ → Type 0
@@ -79,4 +79,4 @@ pub record Rounds : Type 0 where
   -- and of what `report` prints;
   pub printed : (s s' : List ℕ) (a b : Table) → readListing s ≡ accepted a → readListing s' ≡ accepted b → NoEasier (viewOf a) (viewOf b) → KeptInPrint s s' a b
   -- and under the allowance of `bench`, so of what that prints, it does not: task 3 of case A on two processors, where it takes six rounds, and on one
-  pub overtakes : Overtakes (on 2 caseA) (on 1 caseA) 2 benchAllowance 22_000 4
+  pub overtakes : Overtakes (on 2 tasksA) (on 1 tasksA) 2 benchAllowance 22_000 4

@@ -13,7 +13,7 @@ use Rattle.theory.specs.Demand.{loadOf, demandWith}
 use Rattle.theory.specs.Bound.{Least, None}
 use Rattle.theory.specs.Tables.{viewOf}
 use Rattle.page.specs.Report.{reportAllowance, reportText}
-use Rattle.promises.specs.Words.{tableIn}
+use Rattle.promises.specs.Words.{readTable}
 use Rattle.promises.specs.Demand2.{demandIn, runIn, deadlineIn}
 
 -- the demand of a task by document 01's workload
@@ -23,7 +23,7 @@ uncappedDemandIn t i = demandWith uncapped (viewOf t) (level i)
 pub record Window : Type 0 where
   -- "One task cannot run more than t in a window of t."
   pub most : (T D t x : ℕ) → workload T D t x ≤ t
-  -- "From now on the workload is the smaller of t and the old one." So it is never above the old one
+  -- "From now on the workload is the smaller of t and the old one." This holds by definition; so it is never above the old one
   pub smaller : (T D t x : ℕ) → workload T D t x ≡ min t (uncapped T D t x)
   pub less : (T D t x : ℕ) → workload T D t x ≤ uncapped T D t x
   -- it rises with t, and as T gets shorter
@@ -35,7 +35,7 @@ pub record Window : Type 0 where
   -- and so, of each task of an accepted table, "never falls as x grows up to C"
   pub grows-to-run : (t : Table) (i : ℕ) → tableFault t ≡ Fine → i < t .n → (s x x' : ℕ) → x ≤ x' → x' ≤ runIn t i
       → loadOf workload (viewOf t) s (level i) x ≤ loadOf workload (viewOf t) s (level i) x'
-  -- "Demand 2 reads it from here on"
+  -- "Demand 2 reads it from here on": this too holds by definition
   pub read : (t : Table) (i s : ℕ) → demandIn t i s ≡ demandWith workload (viewOf t) (level i) s
   -- "every task that had a bound keeps one, and no bound may become larger than before"
   pub keeps : (t : Table) (i : ℕ) → tableFault t ≡ Fine → i < t .n → (u : ℕ) → Least (uncappedDemandIn t i) (deadlineIn t i) u
@@ -55,10 +55,10 @@ relaxed = "cpus 2\ntask 3 1 3\ntask 6 5 6\ntask 5 1 5\n"
 
 -- the demand of the third task of a listing by document 01's workload, and its deadline
 abbrev pub thirdUncapped : String → ℕ → ℕ
-thirdUncapped s = uncappedDemandIn (tableIn s) 2
+thirdUncapped s = uncappedDemandIn (readTable s) 2
 
 abbrev pub thirdDeadline : String → ℕ
-thirdDeadline s = deadlineIn (tableIn s) 2
+thirdDeadline s = deadlineIn (readTable s) 2
 
 pub record Story : Type 0 where
   -- "A developer shortened a task and another task's verdict went from meets to misses"

@@ -14,5 +14,5 @@ abbrev pub Leaves : {A R X H : Type 0} → (X → H) → (A → R → X → Type
 Leaves {A} {R} {X} {H} held learnt after = (a : A) (r : R) (x : X) → learnt a r x → held x ≡ after a
 
 -- the table that a listing is read as
-abbrev pub tableIn : String → Table
-tableIn s = readListing (bytes s) .table
+abbrev pub readTable : String → Table
+readTable s = readListing (bytes s) .table

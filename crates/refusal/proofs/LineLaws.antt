@@ -9,10 +9,10 @@ use Rattle.table.specs.Faults.{numberOf}
 use Rattle.put.proofs.TextLaws.{count-most}
 use Rattle.refusal.specs.declared.Source.{Source}
 use Rattle.refusal.specs.declared.Source.the-variants.{Listing, Card}
-use Rattle.refusal.specs.Refusal.{placeWord, lineWith, refusalText}
+use Rattle.refusal.specs.Refusal.{placeWord, refusalWith, refusalText}
 
-pub line-most : (word : List ℕ) (r : Refusal) → length (lineWith word r) ≤ 29 + length word
-unfolding lineWith
+pub line-most : (word : List ℕ) (r : Refusal) → length (refusalWith word r) ≤ 29 + length word
+unfolding refusalWith
 line-most word r = simp length-append (omega (arith, count-most (numberOf (r .fault)), count-most (r .place)))
 
 pub refusal-most : (source : Source) (r : Refusal) → length (refusalText source r) ≤ 36

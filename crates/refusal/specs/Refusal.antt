@@ -14,8 +14,8 @@ placeWord Listing = bytes " line "
 placeWord Card = bytes " place "
 
 -- the line with this word
-unfoldable pub lineWith : List ℕ → Refusal → List ℕ
-lineWith word r = bytes "refused " ++ (countText (numberOf (r .fault)) ++ (word ++ (countText (r .place) ++ bytes "\n")))
+unfoldable pub refusalWith : List ℕ → Refusal → List ℕ
+refusalWith word r = bytes "refused " ++ (countText (numberOf (r .fault)) ++ (word ++ (countText (r .place) ++ bytes "\n")))
 
 abbrev pub refusalText : Source → Refusal → List ℕ
-refusalText source r = lineWith (placeWord source) r
+refusalText source r = refusalWith (placeWord source) r

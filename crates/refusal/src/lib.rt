@@ -5,7 +5,7 @@ ghost use Prim.Native.Nat.{_≤_};
 ghost use lib.ListN.{length, drop};
 ghost use Rattle.basics.specs.Text.{putInto};
 ghost use Rattle.put.specs.Text.{putAnswer};
-ghost use Rattle.refusal.specs.Refusal.{lineWith, refusalText};
+ghost use Rattle.refusal.specs.Refusal.{refusalWith, refusalText};
 use put::Put;
 use table::Refusal;
 
@@ -18,7 +18,7 @@ pub enum Source {
 // The line at the start of a scratch area, which has room for it.
 fn build(line: &mut [u8], word: &[u8], r: Refusal) -> usize
     requires { ⌜ (64 ≤ length (now line)) × (length (now word) ≤ 7) ⌝ }
-    ensures { λ n. ⌜ (n ≡ length (lineWith (now (word .entry)) r)) × (now (line .exit) ≡ lineWith (now (word .entry)) r ++ drop n (now (line .entry))) ⌝ }
+    ensures { λ n. ⌜ (n ≡ length (refusalWith (now (word .entry)) r)) × (now (line .exit) ≡ refusalWith (now (word .entry)) r ++ drop n (now (line .entry))) ⌝ }
 {
     let fault = r.fault;
     let a = put::put_text(line, b"refused ").length();
@@ -30,7 +30,7 @@ fn build(line: &mut [u8], word: &[u8], r: Refusal) -> usize
 
 fn put_with(out: &mut [u8], word: &[u8], r: Refusal) -> Put
     requires { ⌜ length (now word) ≤ 7 ⌝ }
-    ensures { λ q. ⌜ (q ≡ putAnswer (lineWith (now (word .entry)) r) (now (out .entry))) × (now (out .exit) ≡ putInto (lineWith (now (word .entry)) r) (now (out .entry))) ⌝ }
+    ensures { λ q. ⌜ (q ≡ putAnswer (refusalWith (now (word .entry)) r) (now (out .entry))) × (now (out .exit) ≡ putInto (refusalWith (now (word .entry)) r) (now (out .entry))) ⌝ }
 {
     let mut line = [0u8; 64];
     let n = build(&mut line, word, r);

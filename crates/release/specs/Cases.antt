@@ -36,8 +36,8 @@ abbrev zero-check : List ℕ
 zero-check = blockOf (head 4 1 1) (taskWith 100_000 40_053 100_000 0 0 0)
 
 -- case A's archive, and one of two blocks of another table
-abbrev caseA : List ℕ
-caseA = one ++ two ++ three
+abbrev archiveA : List ℕ
+archiveA = one ++ two ++ three
 
 abbrev small : ℕ → ℕ → Task → List ℕ
 small n number x = blockOf (head 2 n number) x
@@ -71,7 +71,7 @@ pub record CasesHold : Type 0 where
   pub largest : taskIn (blockOf (head 255 255 255) (taskWith 4_294_967_295 4_294_967_295 4_294_967_295 65_535 4_294_967_295 4_294_967_295))
       ≡ taskWith 4_294_967_295 4_294_967_295 4_294_967_295 65_535 4_294_967_295 4_294_967_295
   -- an archive, and what it is read as
-  pub archive : readArchive caseA ≡ accepted (cleared (record {
+  pub archive : readArchive archiveA ≡ accepted (cleared (record {
     cpus = 2;
     n = 3;
     tasks = taskWith 10_000 2_500 10_000 1 500 500 ∷ taskWith 20_000 4_000 15_000 0 0 0 ∷ taskWith 30_000 6_000 30_000 2 750 1_500 ∷ [];

@@ -30,7 +30,7 @@ use Rattle.salvaging.specs.Fates.{codeOf, fateAt, codeAt, codesOf}
 use Rattle.salvaging.specs.Salvage.{maxBlocks, isCard, blocksOf, hasRoom, roomFault, salvageFault, salvageAnswer, listed}
 use Rattle.salvaging.proofs.AnswerLaws.{card-whole}
 use Rattle.salvaging.proofs.FoundLaws.{codes-length, blocks, blocks-room, answer-is}
-use Rattle.salvage.specs.Telling.{maxCard, fateWord, codeWord, lineWith, fateLine, codeLine, wroteLength, refusedBy, toldText}
+use Rattle.salvage.specs.Telling.{maxCard, fateWord, codeWord, wordLine, fateLine, codeLine, wroteLength, refusedBy, toldText}
 
 -- ---- how long the parts are
 
@@ -43,8 +43,8 @@ word-most code = go (eqb code 0) (eqb code 1) (eqb code 2)
     go false false true = omega arith
     go false false false = omega arith
 
-pub line-most : (position code : ℕ) → length (lineWith position (codeWord code)) ≤ 19
-unfolding lineWith
+pub line-most : (position code : ℕ) → length (wordLine position (codeWord code)) ≤ 19
+unfolding wordLine
 line-most position code = simp length-append (omega (arith, count-most position, word-most code))
 
 pub lines-most : (n : ℕ) (list : List ℕ) → length (joinTo n (codeLine list)) ≤ n * 19
@@ -61,7 +61,7 @@ word-is Moved = refl
 -- the lines of a list that holds the first k codes
 pub lines-are : (s : List ℕ) (k : ℕ) {list : List ℕ} → list ≡ rowTo k (codeAt s) → joinTo (length list) (codeLine list) ≡ joinTo k (fateLine s)
 lines-are s k e =
-    rw (e, row-length k (codeAt s)) (join-eq k (codeLine (rowTo k (codeAt s))) (fateLine s) (λ i h. ap (lineWith (i + 1)) (ap codeWord (row-at k i (codeAt s) 0 h) ∙ word-is (fateAt s i))))
+    rw (e, row-length k (codeAt s)) (join-eq k (codeLine (rowTo k (codeAt s))) (fateLine s) (λ i h. ap (wordLine (i + 1)) (ap codeWord (row-at k i (codeAt s) 0 h) ∙ word-is (fateAt s i))))
 
 -- which the list does, where there is room for every card
 list-card : (s list : List ℕ) (room : ℕ) → maxBlocks ≤ length list → maxCard ≤ room → isCard (length s) ≡ true → listed s list room ≡ codesOf s ++ drop (length (codesOf s)) list

@@ -37,16 +37,16 @@ codeWord code =
     (fateWord Moved)))
 
 -- a line: the position, counted from 1, and the word
-unfoldable pub lineWith : ℕ → List ℕ → List ℕ
-lineWith position word = countText position ++ (bytes " " ++ (word ++ bytes "\n"))
+unfoldable pub wordLine : ℕ → List ℕ → List ℕ
+wordLine position word = countText position ++ (bytes " " ++ (word ++ bytes "\n"))
 
 -- block i + 1
 abbrev pub fateLine : List ℕ → ℕ → List ℕ
-fateLine s i = lineWith (i + 1) (fateWord (fateAt s i))
+fateLine s i = wordLine (i + 1) (fateWord (fateAt s i))
 
 -- by its code, in a list
 abbrev pub codeLine : List ℕ → ℕ → List ℕ
-codeLine list i = lineWith (i + 1) (codeWord (byteAt list i))
+codeLine list i = wordLine (i + 1) (codeWord (byteAt list i))
 
 -- what an answer says: how many bytes were written, and the line of its refusal
 abbrev pub wroteLength : Written → ℕ

@@ -7,7 +7,7 @@ ghost use Rattle.basics.specs.Over.{joinTo};
 ghost use Rattle.basics.specs.Text.{putInto};
 ghost use Rattle.put.specs.Text.{putAnswer};
 ghost use Rattle.salvaging.specs.Salvage.{maxBlocks, salvageAnswer, salvaged};
-ghost use Rattle.salvage.specs.Telling.{maxCard, maxTold, codeWord, lineWith, codeLine, toldText, refusedBy, wroteLength};
+ghost use Rattle.salvage.specs.Telling.{maxCard, maxTold, codeWord, wordLine, codeLine, toldText, refusedBy, wroteLength};
 use block::SIZE;
 use put::Put;
 use refusal::Source;
@@ -41,7 +41,7 @@ fn put_word(out: &mut [u8], code: u8) -> Put
 // The line of the block at a position.
 fn put_line(out: &mut [u8], position: u32, code: u8) -> usize
     requires { ⌜ 19 ≤ length (now out) ⌝ }
-    ensures { λ r. ⌜ (r ≡ length (lineWith position (codeWord code))) × (now (out .exit) ≡ lineWith position (codeWord code) ++ drop r (now (out .entry))) ⌝ }
+    ensures { λ r. ⌜ (r ≡ length (wordLine position (codeWord code))) × (now (out .exit) ≡ wordLine position (codeWord code) ++ drop r (now (out .entry))) ⌝ }
 {
     let a = put::put_count(out, position).length();
     let b = a + put::put_text(&mut out[a..], b" ").length();

@@ -27,7 +27,7 @@ use Rattle.shares.specs.declared.Above.{Above}
 use Rattle.shares.specs.declared.Below.{Below}
 use Rattle.theory.specs.Tables.{viewOf}
 use Rattle.rounds.specs.Shares.{noShare, shareIn}
-use Rattle.shares.specs.Shares.{shareOf}
+use Rattle.shares.specs.Cutting.{shareOf}
 use Rattle.shares.specs.Pass.{markedSum, totalSum, UsedBy, UpperIs, LowerIs, SharesAbove, SharesBelow}
 use Rattle.shares.proofs.ShareLaws.{ShareIs, share-eq}
 use Rattle.shares.proofs.CeilingLaws.{AboveIs}

@@ -9,7 +9,7 @@ use Rattle.rounds.specs.declared.Share.{Share}
 use Rattle.rounds.specs.declared.Shares.{Shares}
 use Rattle.rounds.specs.Shares.{shareAt}
 use Rattle.rounds.specs.Outcome.{SoundShares}
-use Rattle.shares.specs.Shares.{wholeUnits, oneUnits, twoUnits, shareOf}
+use Rattle.shares.specs.Cutting.{wholeUnits, oneUnits, twoUnits, shareOf}
 
 pub record ShareIs (v : View) (i l : Level) (e : Share) : Type 0 where
   pub period : e .period ≡ v .T l

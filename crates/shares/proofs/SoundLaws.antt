@@ -25,7 +25,7 @@ use Rattle.rounds.specs.declared.Share.{Share}
 use Rattle.theory.specs.Tables.{viewOf}
 use Rattle.rounds.specs.Outcome.{Sound, SoundShare, SoundShares}
 use Rattle.rounds.specs.Shares.{noShare}
-use Rattle.shares.specs.Shares.{wholeUnits, oneUnits, twoUnits, tableShares, sharesOf}
+use Rattle.shares.specs.Cutting.{wholeUnits, oneUnits, twoUnits, tableShares, sharesOf}
 use Rattle.shares.proofs.ShareLaws.{ShareIs, share-is, SharesAre, Reduced}
 use Rattle.shares.proofs.PeakLaws.{wait-most}
 

@@ -5,7 +5,7 @@ ghost use Prim.Native.Nat.{_-_, _*_, _^_, _≤_, _<_, max, min};
 ghost use Rattle.basics.specs.Choice.{pick};
 ghost use Rattle.table.specs.Limits.{maxTasks};
 ghost use Rattle.theory.specs.View.{isAbove};
-ghost use Rattle.shares.specs.Shares.{noShares, sharesOf};
+ghost use Rattle.shares.specs.Cutting.{noShares, sharesOf};
 ghost use Rattle.shares.specs.Pass.{Chosen, UsedBy, ceilingWith, CeilingsWith, HighIn, RaisedBy, TotalsAre, WaitIs, UpperIs, LowerIs, SharesAbove, SharesBelow};
 use rounds::Share;
 use rounds::Shares;
@@ -65,7 +65,7 @@ fn unless_short(short: bool, x: u64) -> u64
     if short { 0 } else { x }
 }
 
-fn most(a: u32, b: u32) -> u32
+fn larger(a: u32, b: u32) -> u32
     ensures { λ r. ⌜ r ≡ max a b ⌝ }
 {
     if a < b { b } else { a }
@@ -155,7 +155,7 @@ fn raised(m: Peaks, b: Task) -> Peaks
     while k < Table::MAX_RESOURCES {
         let p = b.pairs[k];
         let old = m.longest[k];
-        longest[k] = most(old, p.longest);
+        longest[k] = larger(old, p.longest);
         k = k + 1;
     }
     Peaks { longest }

@@ -1,5 +1,4 @@
 -- `analysis::record_at` meets its contract: a task's number is one more than its slot. Assumes nothing.
-use mathlib.Core.Path.{ap}
 use native.Mathlib.Numerals.{add-one}
 use native.Mathlib.Omega.{arith}
 use borrow.Author.Needs.{needs}

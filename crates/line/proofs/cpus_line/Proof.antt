@@ -22,7 +22,7 @@ unfolding cpusLine
 returns-2 c =
     let m = c .before .before in
     let b = m .before .before in
-    rw (states Count (m-at (b .before .before)) (b .field-at .ensures) (m .m .given .1) .says) (c .cpus-of .ensures)
+    rw (states Count (m-at (b .before .before)) (b .field-at .ensures) (m .m .given .1) .says) (c .cpus-said .ensures)
 
 pub cpus-line-spec : {M : Type 1} → statement M
 cpus-line-spec =

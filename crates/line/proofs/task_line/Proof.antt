@@ -56,7 +56,7 @@ unfolding taskLine
 returns-4 c =
     let d = c .before .before in
     let r = d .before .before .before .before in
-    rw (period (r .before .before .before .before) .0 .says, run r .0 .says, deadline d .says) (c .task-of .ensures)
+    rw (period (r .before .before .before .before) .0 .says, run r .0 .says, deadline d .says) (c .task-said .ensures)
 
 pub task-line-spec : {M : Type 1} → statement M
 task-line-spec =

@@ -72,7 +72,7 @@ returns-5 c =
     let t = c .before .before in
     let l = t .before .before .before .before in
     let r = l .before .before .before .before in
-    rw (k (r .before .before .before .before) .0 .says, requests r .0 .says, longest l .0 .says, total t .says) (c .use-of .ensures)
+    rw (k (r .before .before .before .before) .0 .says, requests r .0 .says, longest l .0 .says, total t .says) (c .use-said .ensures)
 
 pub use-line-spec : {M : Type 1} → statement M
 use-line-spec =

@@ -5,7 +5,7 @@ use Rattle.basics.specs.Text.{bytes}
 use Rattle.put.specs.Text.{countText}
 use Rattle.put.proofs.TextLaws.{count-most}
 use Rattle.put.proofs.OutputLaws.{written-all, Upto, upto-first, upto-more, upto-in, upto-room, upto-done}
-use Rattle.refusal.specs.Refusal.{lineWith}
+use Rattle.refusal.specs.Refusal.{refusalWith}
 use borrow.Author.Needs.{needs}
 use Rattle.refusal.proofs.build.Statement.{statement}
 use Rattle.refusal.proofs.build.Tie as tie
@@ -100,10 +100,10 @@ add-result : tie.Need-add-result
 add-result c = omega (arith, five c .few)
 
 returns : tie.Need-returns
-unfolding lineWith
+unfolding refusalWith
 returns c =
     let n = c .before .before .before .before .before .before .before .before .before .before .before .before .before .before .before .before .before .before .before .before in
-    upto-done (lineWith (start₅ c .args .word .now) (start₅ c .args .r)) (five c) (rw (← n .number .ensures) (simp append-assoc))
+    upto-done (refusalWith (start₅ c .args .word .now) (start₅ c .args .r)) (five c) (rw (← n .number .ensures) (simp append-assoc))
 
 pub build-spec : {M : Type 1} → statement M
 build-spec =

@@ -4,15 +4,15 @@ use mathlib.Core.Path.{_≡_, sym, ap, _∙_}
 use lib.ListN.{length, take}
 use lib.Seq.{take-at, length-take-le}
 use Rattle.put.proofs.OutputLaws.{text-within}
-use Rattle.refusal.specs.Refusal.{lineWith}
+use Rattle.refusal.specs.Refusal.{refusalWith}
 use borrow.Author.Needs.{needs}
 use Rattle.refusal.proofs.put_with.Statement.{statement}
 use Rattle.refusal.proofs.put_with.Tie as tie
 
 built : (c : tie.After-build) → c .build .result ≤ length (c .build .last .0)
-built c = text-within (lineWith (c .before .before .before .before .args .word .now) (c .before .before .before .before .args .r)) _ (c .build .ensures .0) (c .build .ensures .1)
+built c = text-within (refusalWith (c .before .before .before .before .args .word .now) (c .before .before .before .before .args .r)) _ (c .build .ensures .0) (c .build .ensures .1)
 
-line : (c : tie.After-build) → take (c .build .result) (c .build .last .0) ≡ lineWith (c .before .before .before .before .args .word .now) (c .before .before .before .before .args .r)
+line : (c : tie.After-build) → take (c .build .result) (c .build .last .0) ≡ refusalWith (c .before .before .before .before .args .word .now) (c .before .before .before .before .args .r)
 line c = ap (take (c .build .result)) (c .build .ensures .1) ∙ take-at _ _ _ (sym (c .build .ensures .0))
 
 array-share-prefix-line : tie.Need-array-share-prefix-line

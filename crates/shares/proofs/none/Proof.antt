@@ -1,6 +1,6 @@
 -- `shares::none` meets its contract. Assumes nothing.
 use mathlib.Core.Path.{refl}
-use Rattle.shares.specs.Shares.{noShares}
+use Rattle.shares.specs.Cutting.{noShares}
 use Rattle.shares.proofs.none.Statement.{statement}
 use Rattle.shares.proofs.none.Tie as tie
 

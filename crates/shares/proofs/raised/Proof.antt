@@ -19,7 +19,7 @@ loop-holds : tie.Need-loop-holds Inv-loop μ-loop
 loop-holds c = each-none _ _ _ _ refl
 
 loop-again : tie.Need-loop-again Inv-loop μ-loop
-loop-again c = each-more (c .before .before .before .before .loop .inv) (omega arith) _ _ refl (c .most .ensures) _ refl
+loop-again c = each-more (c .before .before .before .before .loop .inv) (omega arith) _ _ refl (c .larger .ensures) _ refl
 
 returns : tie.Need-returns Inv-loop μ-loop
 returns c = record { each = each-all (c .before .loop .inv) (omega arith) }

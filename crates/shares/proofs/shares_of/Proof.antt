@@ -9,7 +9,7 @@ use Rattle.table.specs.Limits.{maxTasks}
 use Rattle.theory.specs.View.{level}
 use Rattle.theory.specs.Tables.{viewOf}
 use Rattle.rounds.specs.Outcome.{maxWait}
-use Rattle.shares.specs.Shares.{tableShares, sharesOf}
+use Rattle.shares.specs.Cutting.{tableShares, sharesOf}
 use Rattle.shares.proofs.CeilingLaws.{AboveIs, ceilings-all}
 use Rattle.shares.proofs.PeakLaws.{wait-is}
 use Rattle.shares.proofs.PassShares.{row-made}

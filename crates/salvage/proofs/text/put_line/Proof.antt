@@ -5,7 +5,7 @@ use Rattle.basics.specs.Text.{bytes}
 use Rattle.put.specs.Text.{countText}
 use Rattle.put.proofs.TextLaws.{count-most}
 use Rattle.put.proofs.OutputLaws.{written-all, Upto, upto-first, upto-more, upto-in, upto-room, upto-done}
-use Rattle.salvage.specs.Telling.{codeWord, lineWith}
+use Rattle.salvage.specs.Telling.{codeWord, wordLine}
 use Rattle.salvage.proofs.TellingLaws.{word-most}
 use borrow.Author.Needs.{needs}
 use Rattle.salvage.proofs.text.put_line.Statement.{statement}
@@ -81,8 +81,8 @@ add-result : tie.Need-add-result
 add-result c = omega (arith, four c .few)
 
 returns : tie.Need-returns
-unfolding lineWith
-returns c = upto-done (lineWith (start₄ c .args .position) (codeWord (start₄ c .args .code))) (four c) (simp append-assoc)
+unfolding wordLine
+returns c = upto-done (wordLine (start₄ c .args .position) (codeWord (start₄ c .args .code))) (four c) (simp append-assoc)
 
 pub put-line-spec : {M : Type 1} → statement M
 put-line-spec =

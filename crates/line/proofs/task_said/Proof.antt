@@ -1,4 +1,4 @@
--- `line::task_of` meets its contract. The fields are well formed, so the number of tasks decides, and then the times. Assumes nothing.
+-- `line::task_said` meets its contract. The fields are well formed, so the number of tasks decides, and then the times. Assumes nothing.
 use mathlib.Core.Path.{_≡_, ap, ap₂, _∙_}
 use Rattle.table.specs.declared.Fault.the-variants.{TooManyTasks}
 use Rattle.table.specs.declared.Checked.{Checked}
@@ -10,8 +10,8 @@ use Rattle.field.specs.declared.Field.the-variants.{Value}
 use Rattle.line.specs.declared.Said.the-variants.{Task as TaskLine}
 use Rattle.line.specs.Line.{_gives_, taskLine}
 use borrow.Author.Needs.{needs}
-use Rattle.line.proofs.task_of.Statement.{statement}
-use Rattle.line.proofs.task_of.Tie as tie
+use Rattle.line.proofs.task_said.Statement.{statement}
+use Rattle.line.proofs.task_said.Tie as tie
 
 -- what the two checks come to
 checks : (c : tie.After-first-of)
@@ -32,6 +32,6 @@ returns c = rw (c .before .r .given .1) at (said (c .before .before .before))
 returns-2 : tie.Need-returns-2
 returns-2 c = rw (c .enum-told .given .1) at (said (c .before .before))
 
-pub task-of-spec : {M : Type 1} → statement M
-task-of-spec =
+pub task-said-spec : {M : Type 1} → statement M
+task-said-spec =
     tie.close (tie.spec (λ c κs. search needs) (λ c κs. search needs) (λ c κs. search needs) (λ c. search needs) returns (λ c. search needs) returns-2)

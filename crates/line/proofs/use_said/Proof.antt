@@ -1,4 +1,4 @@
--- `line::use_of` meets its contract. The fields are well formed, so the tests decide, in order. Assumes nothing.
+-- `line::use_said` meets its contract. The fields are well formed, so the tests decide, in order. Assumes nothing.
 use mathlib.Core.Path.{_≡_}
 use mathlib.Core.Bool.{true, _&&_}
 use borrow.Author.Tests.{lt-ltb, le-ltb}
@@ -7,8 +7,8 @@ use Rattle.basics.proofs.ChoiceLaws.{stops, passes}
 use Rattle.table.specs.Rules.{usedInRange}
 use Rattle.line.specs.Line.{useLine}
 use borrow.Author.Needs.{needs}
-use Rattle.line.proofs.use_of.Statement.{statement}
-use Rattle.line.proofs.use_of.Tie as tie
+use Rattle.line.proofs.use_said.Statement.{statement}
+use Rattle.line.proofs.use_said.Tie as tie
 
 returns : tie.Need-returns
 unfolding useLine
@@ -42,8 +42,8 @@ returns-5 c =
     let b = c .before .before .before .before in
     rw (in-use (b .before .before .before), lt-ltb _ _ (b .if3 .left), passes (c .before .totals-fit .ensures) (c .if4 .left))
 
-pub use-of-spec : {M : Type 1} → statement M
-use-of-spec =
+pub use-said-spec : {M : Type 1} → statement M
+use-said-spec =
     tie.close
     (tie.spec
     (λ c κs. search needs)

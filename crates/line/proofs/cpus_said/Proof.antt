@@ -1,9 +1,9 @@
--- `line::cpus_of` meets its contract. The field is well formed, so the range decides. Assumes nothing.
+-- `line::cpus_said` meets its contract. The field is well formed, so the range decides. Assumes nothing.
 use Rattle.basics.proofs.ChoiceLaws.{stops, passes}
 use Rattle.line.specs.Line.{cpusLine}
 use borrow.Author.Needs.{needs}
-use Rattle.line.proofs.cpus_of.Statement.{statement}
-use Rattle.line.proofs.cpus_of.Tie as tie
+use Rattle.line.proofs.cpus_said.Statement.{statement}
+use Rattle.line.proofs.cpus_said.Tie as tie
 
 returns : tie.Need-returns
 unfolding cpusLine
@@ -13,5 +13,5 @@ returns-2 : tie.Need-returns-2
 unfolding cpusLine
 returns-2 c = simp (passes (c .before .in-range .ensures) (c .if1 .left))
 
-pub cpus-of-spec : {M : Type 1} → statement M
-cpus-of-spec = tie.close (tie.spec (λ c κs. search needs) (λ c κs. search needs) returns returns-2)
+pub cpus-said-spec : {M : Type 1} → statement M
+cpus-said-spec = tie.close (tie.spec (λ c κs. search needs) (λ c κs. search needs) returns returns-2)
