@@ -13,7 +13,7 @@ fn main() {
         io::write_all(STDERR_FILENO, b"bench: the input could not be read\n");
         return;
     };
-    let mut out = [0u8; page::MOST];
+    let mut out = [0u8; page::MAX_PAGE];
     let length = text::report(&space[..n], &mut out);
     if !io::write_all(STDOUT_FILENO, &out[..length]) {
         io::write_all(STDERR_FILENO, b"bench: the report could not be written\n");

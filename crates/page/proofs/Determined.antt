@@ -4,14 +4,10 @@ use mathlib.Core.Path.{sym, _∙_}
 use contract.Lifetimes.{Lfts}
 use Rattle.basics.specs.Determined.{Determined, DeterminedWith}
 use Rattle.page.proofs.page_of.Reads as page-of
-use Rattle.page.proofs.put_header.Reads as put-header
-use Rattle.page.proofs.put_row.Reads as put-row
+use Rattle.page.proofs.put_page.Reads as put-page
 
 pub page-of-determined : (κs : Lfts 1) → Determined (page-of.Learnt κs)
 page-of-determined κs a x y r s p q = p ∙ sym q
 
-pub put-header-determined : (κs : Lfts 1) → DeterminedWith (λ x. x .0 .now) (put-header.Learnt κs)
-put-header-determined κs a x y r s p q = (p .0 ∙ sym (q .0), p .1 ∙ sym (q .1))
-
-pub put-row-determined : (κs : Lfts 2) → DeterminedWith (λ x. x .0 .now) (put-row.Learnt κs)
-put-row-determined κs a x y r s p q = (p .0 ∙ sym (q .0), p .1 ∙ sym (q .1))
+pub put-page-determined : (κs : Lfts 1) → DeterminedWith (λ x. x .0 .now) (put-page.Learnt κs)
+put-page-determined κs a x y r s p q = (p .0 ∙ sym (q .0), p .1 ∙ sym (q .1))

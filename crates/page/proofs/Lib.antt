@@ -1,6 +1,6 @@
---   RowLaws      how long a row is
---   Reports      the page row by row; the report on an accepted listing is the page of its table
---   Printed      the text that a program prints, from the page that it was given
+--   RowLaws      how long a row is, and the row with a verdict's cells
+--   Reports      the page row by row
+--   Printed      the text that a program prints, from the page and the cells that it hands over
 --   Determined   two answers are equal
 pub mod RowLaws
 pub mod Reports

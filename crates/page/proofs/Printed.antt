@@ -1,66 +1,70 @@
--- The text that a program prints, from the page that it was given.
---     record-most, records-most        how long a record's row is, and a page of records
---     row-put                          a record's row that fits is put whole
---     page-few                         a page that nothing is said against has at most 32 tasks
---     report-refused, report-page      the report, by what the page says
+-- The text that a program prints, from the page and the cells that it hands over.
+--     row-most-at, rows-most     how long a row is, and a page of rows
+--     report-put                 what is put of the page of a listing, with the cells of its verdicts, is the report
 -- Assumes nothing.
-use Prim.Native.Nat.{ℕ, _+_, _*_, _≤_}
-use mathlib.Core.Path.{_≡_, sym, ap, _∙_}
+use Prim.Native.Nat.{ℕ, _+_, _*_, _≤_, zero-le}
+use mathlib.Core.Path.{_≡_, refl}
+use mathlib.Core.Bool.{true}
 use mathlib.Core.List.{List, _++_}
 use native.Mathlib.Omega.{arith}
-use lib.ListN.{length, drop, replicate}
-use Rattle.basics.specs.Text.{putInto}
+use lib.ListN.{length, getD, drop}
+use borrow.Author.Tests.{le-leb}
+use Rattle.basics.proofs.RowLaws.{row-at}
 use Rattle.put.specs.declared.Put.{Put}
-use Rattle.put.specs.Text.{putAnswer, putLength}
-use Rattle.put.proofs.OutputLaws.{written-all}
-use Rattle.table.specs.declared.Refusal.{Refusal}
+use Rattle.put.specs.Text.{putLength}
+use Rattle.table.specs.declared.Table.{Table}
+use Rattle.table.specs.declared.Checked.{Checked}
 use Rattle.table.specs.declared.Checked.the-variants.{Fine, Refused}
 use Rattle.table.specs.Limits.{maxTasks}
-use Rattle.table.proofs.FirstLaws.{then-fine}
-use Rattle.table.proofs.Acceptance.{fine-accepted}
+use Rattle.table.specs.Faults.{_then_}
 use Rattle.listing.specs.Read.{readListing}
+use Rattle.theory.specs.declared.Verdict.the-variants.{Meets}
 use Rattle.analysis.specs.declared.Record.{Record}
-use Rattle.analysis.specs.Answers.{analysisFault, recordOf, noRecord}
-use Rattle.analysis.proofs.RowLaws.{fits, count-fine, row-record}
-use Rattle.refusal.specs.declared.Source.the-variants.{Listing}
-use Rattle.refusal.specs.Refusal.{refusalText}
+use Rattle.analysis.specs.Answers.{noRecord, orNone, recordCount, analysisFault, recordOf, analysed}
+use Rattle.analysis.proofs.RowLaws.{fits, count-most, count-fine, row-record}
 use Rattle.page.specs.declared.Page.{Page}
-use Rattle.page.specs.Report.{pageText, maxRow, reportText}
-use Rattle.page.specs.Pages.{pageOf, recordText, recordRow}
-use Rattle.page.proofs.RowLaws.{row-most}
+use Rattle.page.specs.declared.Cells.{Cells}
+use Rattle.page.specs.Report.{pageText, maxRow, maxPage, taskRow, orRefusal, reportText}
+use Rattle.page.specs.Pages.{noRecords, pageAfter, pageOf, cellsOf, cellsRow, allCells, printed, fitsPage, pageAnswer, pageInto}
+use Rattle.page.proofs.RowLaws.{row-most, row-verdict}
 use Rattle.page.proofs.Reports.{page-eq, page-most}
 
-pub record-most : (rows : List Record) (i : ℕ) → length (recordRow rows i) ≤ maxRow
-record-most rows i = row-most _ _ _
+pub row-most-at : (rows : List Record) (cells : List Cells) (i : ℕ) → length (cellsRow rows cells i) ≤ maxRow
+row-most-at rows cells i = row-most (getD rows i noRecord) (getD cells i (cellsOf (Meets 0)))
 
-pub records-most : (rows : List Record) (n : ℕ) → length (pageText n (recordRow rows)) ≤ 29 + n * maxRow
-records-most rows n = page-most n maxRow (recordRow rows) (λ i h. record-most rows i)
+pub rows-most : (rows : List Record) (cells : List Cells) (n : ℕ) → length (pageText n (cellsRow rows cells)) ≤ 29 + n * maxRow
+rows-most rows cells n = page-most n maxRow (cellsRow rows cells) (λ i h. row-most-at rows cells i)
 
-pub row-put : (x : Record) (o : List ℕ) {row o₁ : List ℕ} {q : Put} {r : ℕ} → recordText x ≡ row → maxRow ≤ length o
-    → r ≡ putLength q → q ≡ putAnswer row o → o₁ ≡ putInto row o → (r ≡ length (recordText x)) × (o₁ ≡ recordText x ++ drop r o)
-row-put x o {row} e h n a w =
-    rw e (written-all row o (omega (arith, ap length e, row-most (x .task .0) (x .verdict) (x .rounds))) n a w)
+module _ (t : Table) (allowance : ℕ) where
+  -- there is a record for each row
+  few : (a : Checked) → let p = pageAfter a t allowance in orNone (p .answer) (p .n) ≤ maxTasks
+  unfolding recordCount
+  few Fine = count-most t allowance maxTasks
+  few (Refused r) = zero-le
 
-module _ (s : List ℕ) (allowance : ℕ) {p : Page} (e : p ≡ pageOf s allowance) where
-  pub report-refused : {f : Refusal} → p .answer ≡ Refused f → reportText allowance s ≡ refusalText Listing f
-  unfolding reportText pageOf
-  report-refused g = rw (sym (ap (λ (p : Page). p .answer) e) ∙ g)
+  -- the rows, where the analysis says nothing against the table
+  rows-by : (f : Checked) → analysisFault t allowance maxTasks ≡ f → let rows = analysed t allowance noRecords in
+      orRefusal f (pageText (t .n) (cellsRow rows (allCells rows))) ≡ orRefusal f (pageText (t .n) (taskRow t allowance))
+  unfolding recordOf
+  rows-by (Refused r) e = refl
+  rows-by Fine e =
+      page-eq (t .n) _ _ (λ i l.
+      rw (row-at maxTasks i _ (cellsOf (Meets 0)) (omega (arith, fits t allowance maxTasks e .1)), row-record t allowance noRecords i noRecord (omega (arith, count-fine t allowance maxTasks e)))
+      (row-verdict _ _ _))
 
-  -- of a page that nothing is said against, the analysis has filled the row
-  module _ (g : p .answer ≡ Fine) where
-    fine : analysisFault (readListing s .table) allowance maxTasks ≡ Fine
-    unfolding pageOf
-    fine = then-fine (readListing s .answer) _ (sym (ap (λ (p : Page). p .answer) e) ∙ g) .1
+  text-by : (a : Checked) → let p = pageAfter a t allowance in
+      printed p (allCells (p .rows)) ≡ orRefusal (a then analysisFault t allowance maxTasks) (pageText (t .n) (taskRow t allowance))
+  unfolding printed
+  text-by Fine = rows-by (analysisFault t allowance maxTasks) refl
+  text-by (Refused r) = refl
 
-    pub page-few : p .n ≤ maxTasks
-    unfolding pageOf
-    page-few = rw (ap (λ (p : Page). p .n) e) (fine-accepted (readListing s .table) (fits _ _ _ fine .0) .tasks-most)
-
-    pub report-page : reportText allowance s ≡ pageText (p .n) (recordRow (p .rows))
-    unfolding reportText pageOf recordOf
-    report-page =
-        let t = readListing s .table in
-        let row = replicate maxTasks noRecord in
-        let w = count-fine t allowance maxTasks fine in
-        rw (sym (ap (λ (p : Page). p .answer) e) ∙ g, e)
-        (page-eq (t .n) _ _ (λ i l. rw (row-record t allowance row i noRecord (omega (arith, w)))))
+pub report-put : (s : List ℕ) (allowance : ℕ) (o : List ℕ) {p : Page} {cells : List Cells} {o₁ : List ℕ} {q : Put} {r : ℕ}
+    → p ≡ pageOf s allowance → cells ≡ allCells (p .rows) → maxPage ≤ length o → r ≡ putLength q → q ≡ pageAnswer p cells o → o₁ ≡ pageInto p cells o
+    → (r ≡ length (reportText allowance s)) × (o₁ ≡ reportText allowance s ++ drop r o)
+unfolding pageOf reportText
+report-put s allowance o {p} {cells} {r = r} e g h n a w =
+    let x = readListing s in
+    let t : printed p cells ≡ reportText allowance s = rw (g, e) (text-by (x .table) allowance (x .answer)) in
+    let f : fitsPage p o ≡ true = rw (le-leb maxPage (length o) h, e) (le-leb _ maxTasks (few (x .table) allowance (x .answer))) in
+    let z : r ≡ length (reportText allowance s) = rw (n, a, f, t) in
+    (z, rw (w, f, t, z))

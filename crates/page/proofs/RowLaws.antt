@@ -1,28 +1,36 @@
--- How long a row is.
+-- How long a row is, and what a row with a verdict's cells says.
 -- Assumes nothing.
-use Prim.Native.Nat.{ℕ, _+_, _≤_}
-use mathlib.Core.Path.{_≡_}
-use mathlib.Core.List.{List}
+use Prim.Native.Nat.{ℕ, _≤_}
+use mathlib.Core.Path.{_≡_, refl}
 use native.Mathlib.Omega.{arith}
 use lib.ListN.{length, length-append}
-use Rattle.put.specs.Text.{countText}
 use Rattle.put.proofs.TextLaws.{count-most}
 use Rattle.theory.specs.declared.Verdict.{Verdict}
 use Rattle.theory.specs.declared.Verdict.the-variants.{Meets, Misses, Open}
+use Rattle.analysis.specs.declared.Record.{Record}
+use Rattle.page.specs.declared.Word.{Word}
+use Rattle.page.specs.declared.Word.the-variants.{Meets as SaysMeets, Misses as SaysMisses, Open as SaysOpen}
 use Rattle.page.specs.declared.Bound.{Bound}
 use Rattle.page.specs.declared.Bound.the-variants.{Of, Dash}
+use Rattle.page.specs.declared.Cells.{Cells}
 use Rattle.page.specs.Report.{boundText, rowWith, rowText, maxRow}
+use Rattle.page.specs.Pages.{cellsOf, wordText, rowOf}
 
-pub row-length : (number : ℕ) (word : List ℕ) (bound : Bound) (rounds : ℕ)
-    → length (rowWith number word bound rounds) ≡ length (countText number) + length (boundText bound) + length (countText rounds) + 4 + length word
+pub word-most : (w : Word) → length (wordText w) ≤ 6
+word-most SaysMeets = omega arith
+word-most SaysMisses = omega arith
+word-most SaysOpen = omega arith
+
+pub bound-most : (b : Bound) → length (boundText b) ≤ 10
+bound-most (Of t) = count-most t
+bound-most Dash = omega arith
+
+pub row-most : (x : Record) (c : Cells) → length (rowOf x c) ≤ maxRow
 unfolding rowWith
-row-length number word bound rounds = simp length-append (omega arith)
+row-most x c = simp length-append (omega (arith, count-most (x .task .0), word-most (c .0), bound-most (c .1), count-most (x .rounds)))
 
-with-most : (number : ℕ) (word : List ℕ) (bound : Bound) (rounds : ℕ) → length word + length (boundText bound) ≤ 15 → length (rowWith number word bound rounds) ≤ maxRow
-with-most number word bound rounds h = omega (arith, row-length number word bound rounds, count-most number, count-most rounds)
-
-pub row-most : (number : ℕ) (v : Verdict) (rounds : ℕ) → length (rowText number v rounds) ≤ maxRow
+pub row-verdict : (number : ℕ) (v : Verdict) (rounds : ℕ) → let c = cellsOf v in rowWith number (wordText (c .0)) (c .1) rounds ≡ rowText number v rounds
 unfolding rowText
-row-most number (Meets t) rounds = with-most number _ (Of t) rounds (omega (arith, count-most t))
-row-most number Misses rounds = with-most number _ Dash rounds (omega arith)
-row-most number Open rounds = with-most number _ Dash rounds (omega arith)
+row-verdict number (Meets t) rounds = refl
+row-verdict number Misses rounds = refl
+row-verdict number Open rounds = refl

@@ -53,9 +53,9 @@ header = bytes "task verdict bound_us rounds\n"
 unfoldable pub pageText : ℕ → (ℕ → List ℕ) → List ℕ
 pageText n row = header ++ joinTo n row
 
--- the most bytes that a row has, three numbers of up to ten digits, a word and its spaces; and a page, with a header of 29
+-- the most bytes that a row has, three numbers of up to ten digits, a word of up to six, three spaces and the LF; and a page, with a header of 29
 abbrev pub maxRow : ℕ
-maxRow = 39
+maxRow = 40
 
 abbrev pub maxPage : ℕ
 maxPage = 29 + maxTasks * maxRow

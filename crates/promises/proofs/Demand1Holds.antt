@@ -27,7 +27,7 @@ use Rattle.salvaging.proofs.Determined.{code-determined, blocks-of-determined, 
 use Rattle.recovery.proofs.Listed.{list-kept, list-written}
 use Rattle.analysis.specs.Answers.{recordCount, analysed}
 use Rattle.analysis.proofs.Determined.{bound-determined, analyse-all-determined, analyse-determined}
-use Rattle.page.proofs.Determined.{page-of-determined, put-header-determined, put-row-determined}
+use Rattle.page.proofs.Determined.{page-of-determined, put-page-determined}
 use Rattle.promises.specs.Demand1.{Entries, Determines, Keeps, KeepsOrLists, Demand1}
 use Rattle.promises.proofs.RefusalsHold.{first-decides}
 
@@ -94,8 +94,7 @@ determines =
       analyse-all = analyse-all-determined;
       analyse = analyse-determined;
       page-of = page-of-determined;
-      put-header = put-header-determined;
-      put-row = put-row-determined;
+      put-page = put-page-determined;
     }
 
 -- ---- a refusal changes nothing

@@ -1,7 +1,8 @@
 --   RefusalsHold, Demand1Holds, Demand2Holds, NoEasierHolds, NotEmptyHolds, DecimalsHold, ArchivesHold, PointsHold, WindowHolds, SalvagesHold, RoundsHold, EachReadHolds, ReadsHold, RespondsHold   each promise, by citing the crate or the file that did the work
 --   NoEasierLaws                                                                                                                                                        the one result, over what the analysis reads of two tables
 --   ReadsLaws, SameReadLaws, OnlyRunLaws                                                                                                                                what a verdict reads: of which tasks; the demand is the same where two tables agree on it, and where one run time alone differs
---   ComparedByTest, AgreeByTest, UnchangedByTest, ThreeTasks                                                                                                            two tables compared, and held to what a verdict reads, each by one test that computes; the report on three tasks
+--   ComparedByTest, AgreeByTest, UnchangedByTest                                                                                                                        two tables compared, and held to what a verdict reads, each by one test that computes
+--   ReportLaws, ThreeTasks                                                                                                                                              the report on an accepted listing, and on three tasks
 pub mod RefusalsHold
 pub mod Demand1Holds
 pub mod Demand2Holds
@@ -11,6 +12,7 @@ pub mod NoEasierLaws
 pub mod NoEasierHolds
 pub mod DecimalsHold
 pub mod ArchivesHold
+pub mod ReportLaws
 pub mod ThreeTasks
 pub mod PointsHold
 pub mod WindowHolds

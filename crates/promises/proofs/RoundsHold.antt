@@ -29,13 +29,13 @@ use Rattle.analysis.specs.declared.Answer.the-variants.{Known}
 use Rattle.analysis.specs.Answers.{boundOf}
 use Rattle.analysis.proofs.ByRounds.{rounds-end, under-more, bound-known, known}
 use Rattle.page.specs.Report.{reportAllowance, benchAllowance}
-use Rattle.page.proofs.Reports.{report-accepted}
 use Rattle.meaning.proofs.Meaning.{passes-check}
 use Rattle.promises.specs.Demand2.{deadlineIn, runIn, CountIn}
 use Rattle.promises.specs.NoEasier.{NoEasier, Related}
 use Rattle.promises.specs.NotEmpty.{on, tasksA}
 use Rattle.promises.specs.Rounds.{RightRounds, PrintsRows, KeptInPrint, Overtakes, Rounds}
 use Rattle.promises.proofs.Demand2Holds.{demand2}
+use Rattle.promises.proofs.ReportLaws.{report-accepted}
 use Rattle.promises.proofs.ThreeTasks.{some-allowed}
 use Rattle.promises.proofs.ComparedByTest.{at-most, equal, any, rules}
 use Rattle.promises.proofs.NotEmptyHolds.{related-by}

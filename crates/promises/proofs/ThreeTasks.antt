@@ -16,8 +16,8 @@ use Rattle.theory.specs.View.{level}
 use Rattle.theory.specs.Tables.{countedIn}
 use Rattle.analysis.proofs.ByRounds.{under-more}
 use Rattle.page.specs.Report.{reportAllowance, header, rowText, pageText, reportText}
-use Rattle.page.proofs.Reports.{report-accepted}
 use Rattle.promises.specs.Words.{readTable}
+use Rattle.promises.proofs.ReportLaws.{report-accepted}
 
 abbrev row : ℕ → Counted → List ℕ
 row number r = rowText number (r .verdict) (r .rounds)

@@ -73,8 +73,7 @@ use Rattle.analysis.proofs.analyse as analyse
 use Rattle.analysis.proofs.analyse_all.Reads as analyse-all
 use Rattle.analysis.proofs.bound.Reads as bound
 use Rattle.page.proofs.page_of.Reads as page-of
-use Rattle.page.proofs.put_header.Reads as put-header
-use Rattle.page.proofs.put_row.Reads as put-row
+use Rattle.page.proofs.put_page.Reads as put-page
 use Rattle.promises.specs.Words.{Answers, Leaves}
 use Rattle.promises.specs.Refusals.{FirstDecides}
 
@@ -145,8 +144,7 @@ pub record Determines : Type 0 where
   pub analyse : (t : Table) (allowance : ℕ) (row : List Record) (r s : Checked) (x y : List Record)
       → FillsRow t allowance row r x → FillsRow t allowance row s y → (r ≡ s) × (x ≡ y)
   pub page-of : (κs : Lfts 1) → Determined (page-of.Learnt κs)
-  pub put-header : (κs : Lfts 1) → DeterminedWith (λ x. x .0 .now) (put-header.Learnt κs)
-  pub put-row : (κs : Lfts 2) → DeterminedWith (λ x. x .0 .now) (put-row.Learnt κs)
+  pub put-page : (κs : Lfts 1) → DeterminedWith (λ x. x .0 .now) (put-page.Learnt κs)
 
 -- ---- a refusal leaves everything lent as it was
 
