@@ -23,7 +23,8 @@ use Rattle.line.specs.Fields.{form}
 use Rattle.line.specs.Line.{_gives_, cpusLine, taskLine, useLine, lineSays}
 use Rattle.line.specs.Stated.{Without, IsLine}
 use Rattle.line.specs.Refusals.{LineCallsFor, SaysNot, LineRefused}
-use Rattle.line.proofs.WordLaws.{form-line, line-fields, line-form, form-other}
+use Rattle.line.proofs.WordLaws.{form-line}
+use Rattle.line.proofs.LineForm.{line-fields, line-form, form-other}
 use Rattle.line.proofs.StatedLaws.{others-alone, alone-field}
 use Rattle.line.proofs.FieldCalls.{cpus-calls, cpus-given, task-calls, task-given}
 use Rattle.line.proofs.UseCalls.{use-calls, use-given}
@@ -94,17 +95,17 @@ module _ (past : Past) (n : ℕ) (s : List ℕ) where
       (λ x q.
       let f = and-true (form (bytes "cpus") 2 s) (eqb n 1) x in
       let r = cpus-calls n (others-alone s 0) k p (not-given _ (λ r e. cc) q) in
-      (LineCallsFor.cpus-line (eqb-true n 1 (f .1)) (form-line "cpus" 1 s w (f .0)) (r .0), sym (r .1)))
+      (LineCallsFor.of-cpus (eqb-true n 1 (f .1)) (form-line "cpus" 1 s w (f .0)) (r .0), sym (r .1)))
       (λ x. chosen isTask _ _ (Called k p)
       (λ y q.
       let f = and-true (form (bytes "task") 4 s) (ltb 1 n) y in
       let r = task-calls past n (others-alone s 0) (others-alone s 1) (others-alone s 2) k p (not-given _ (λ r e. cc) q) in
-      (LineCallsFor.task-line (ltb-true 1 n (f .1)) (form-line "task" 3 s w (f .0)) (r .0), sym (r .1)))
+      (LineCallsFor.of-task (ltb-true 1 n (f .1)) (form-line "task" 3 s w (f .0)) (r .0), sym (r .1)))
       (λ y. chosen isUse _ _ (Called k p)
       (λ z q.
       let f = and-true (form (bytes "use") 5 s) (ltb 0 (past .tasks)) z in
       let r = use-calls past n (others-alone s 0) (others-alone s 1) (others-alone s 2) (others-alone s 3) k p (not-given _ (λ r e. cc) q) in
-      (LineCallsFor.use-line (ltb-true 0 _ (f .1)) (form-line "use" 4 s w (f .0)) (r .0), sym (r .1)))
+      (LineCallsFor.of-use (ltb-true 0 _ (f .1)) (form-line "use" 4 s w (f .0)) (r .0), sym (r .1)))
       (λ z. form-called k p x y z)))
 
   -- ---- and what is called for is said
@@ -116,14 +117,14 @@ module _ (past : Past) (n : ℕ) (s : List ℕ) where
       let y = failing isTask (and-true (form (bytes "task") 4 s) (ltb 1 n)) (λ f. i (ltb-true 1 n (f .1)) _ _ _ (form-line "task" 3 s w (f .0))) in
       let z = failing isUse (and-true (form (bytes "use") 5 s) (ltb 0 (past .tasks))) (λ f. j (ltb-true 0 _ (f .1)) _ _ _ _ (form-line "use" 4 s w (f .0))) in
       rw (x, y, z) (_, refl, record { number = refl; place = refl })
-  line-given w (LineCallsFor.cpus-line {m} e l c) =
+  line-given w (LineCallsFor.of-cpus {m} e l c) =
       let o = line-fields (alone-field {w = bytes "cpus"} refl (omega arith)) l .1 in
       rw (cpus-form e l, o) (given-not _ _ (cpus-given n (rw o at (others-alone s 0)) c))
-  line-given w (LineCallsFor.task-line {t} {c} {d} h l x) =
+  line-given w (LineCallsFor.of-task {t} {c} {d} h l x) =
       let o = line-fields (alone-field {w = bytes "task"} refl (omega arith)) l .1 in
       let f : isCpus ≡ false = rw (ne-eqb n 1 (λ e. omega arith), and-false) in
       rw (f, task-form h l, o) (given-not _ _ (task-given past n (rw o at (others-alone s 0)) (rw o at (others-alone s 1)) (rw o at (others-alone s 2)) x))
-  line-given w (LineCallsFor.use-line {k} {r} {c} {ct} h l x) =
+  line-given w (LineCallsFor.of-use {k} {r} {c} {ct} h l x) =
       let a = alone-field {w = bytes "use"} refl (omega arith) in
       let o = line-fields a l .1 in
       let u : form (bytes "use") 5 s ≡ true = line-form a l in

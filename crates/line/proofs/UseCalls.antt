@@ -24,11 +24,10 @@ use Rattle.table.proofs.RuleLaws.{unless-fine}
 use Rattle.field.specs.declared.Field.{Field}
 use Rattle.field.specs.declared.Rounding.the-variants.{Up}
 use Rattle.field.specs.Number.{first, timeField, countField}
-use Rattle.field.specs.Spelling.{Time}
 use Rattle.line.specs.declared.Past.{Past}
 use Rattle.line.specs.Line.{formed, value}
-use Rattle.line.specs.Stated.{StatesUse}
-use Rattle.line.specs.Refusals.{UseCallsFor}
+use Rattle.line.specs.Stated.{UseFigures, StatesUse, heldPair}
+use Rattle.line.specs.Refusals.{UseLineCalls}
 use Rattle.line.proofs.StatedLaws.{formed-states, count-in, time-in, count-stated, time-stated}
 
 -- ---- `use K N c CT`
@@ -69,26 +68,24 @@ module _ (past : Past) (n : ℕ) {k r c ct : List ℕ} (a : first k ≡ k) (b : 
   useFault = unless useFormed BadField n then unless useRange OutOfRange n then unless (ltb (past .last .0) (value K)) NotRising n then unless useTotals BadTotals n
 
   abbrev UseCalls : ℕ → ℕ → Type 0
-  UseCalls q place = UseCallsFor past k r c ct q × (n ≡ place)
+  UseCalls q place = UseLineCalls past k r c ct q × (n ≡ place)
 
   -- the figures that the fields state are those that are read
-  record UseStated : Type 0 where
-    times : ℕ × ℕ
-    states : StatesUse k r c ct (value K) (value N) (record { typed = times .0; held = value longest }) (record { typed = times .1; held = value CT })
+  abbrev figures : ℕ × ℕ → UseFigures
+  figures typed = record { K = value K; N = value N; c = record { typed = typed .0; held = value longest }; CT = record { typed = typed .1; held = value CT } }
 
-  use-stated : useFormed ≡ true → UseStated
+  use-stated : useFormed ≡ true → (typed : ℕ × ℕ) × StatesUse k r c ct (figures typed)
   use-stated g =
       let d = and-true (formed K && formed N && formed longest) (formed CT) g in
       let h = and-true (formed K && formed N) (formed longest) (d .0) in
       let i = and-true (formed K) (formed N) (h .0) in
       let x = time-in e Up (formed-states longest (h .1)) in
-      let y = time-in f Up (formed-states CT (d .1)) in
-      record {
-        times = (x .typed, y .typed);
-        states = record { resource = count-in a (formed-states K (i .0)); requests = count-in b (formed-states N (i .1)); longest = x .states; total = y .states };
-      }
+      let y = time-in f Up (formed-states CT (d .1)) in (
+        (x .typed, y .typed),
+        record { resource = count-in a (formed-states K (i .0)); requests = count-in b (formed-states N (i .1)); longest = x .states; total = y .states },
+      )
 
-  use-formed : {M v : ℕ} {x y : Time} → StatesUse k r c ct M v x y → useFormed ≡ true
+  use-formed : {u : UseFigures} → StatesUse k r c ct u → useFormed ≡ true
   use-formed s = rw (count-stated (s .resource) .is, count-stated (s .requests) .is, time-stated (s .longest) .is, time-stated (s .total) .is)
 
   pub use-calls : (q place : ℕ) → Refuses useFault q place → UseCalls q place
@@ -96,27 +93,27 @@ module _ (past : Past) (n : ℕ) {k r c ct : List ℕ} (a : first k ≡ k) (b : 
       let rising = unless (ltb (past .last .0) (value K)) NotRising n in
       let totals = unless useTotals BadTotals n in
       from-two (unless useFormed BadField n) (unless useRange OutOfRange n then rising then totals) q place
-      (from-rule UseCalls useFormed BadField n q place (λ x. (UseCallsFor.bad-field (λ M v y z s. fails _ (λ (s : StatesUse k r c ct M v y z). use-formed s) x s), refl)))
+      (from-rule UseCalls useFormed BadField n q place (λ x. (UseLineCalls.bad-field (λ u s. fails _ (λ (s : StatesUse k r c ct u). use-formed s) x s), refl)))
       (λ g.
-      let s = use-stated (unless-fine _ BadField n g) .states in
+      let s = use-stated (unless-fine _ BadField n g) .1 in
       from-two (unless useRange OutOfRange n) (rising then totals) q place
-      (from-rule UseCalls useRange OutOfRange n q place (λ x. (UseCallsFor.out-of-range s (fails _ (in-range (value K) p .1) x), refl)))
+      (from-rule UseCalls useRange OutOfRange n q place (λ x. (UseLineCalls.out-of-range s (fails _ (in-range (value K) p .1) x), refl)))
       (λ h.
       let i = in-range (value K) p .0 (unless-fine _ OutOfRange n h) in
       from-two rising totals q place
       (from-rule UseCalls (ltb (past .last .0) (value K)) NotRising n q place
-      (λ x. (UseCallsFor.not-rising s (i .0) (i .1) (omega (arith, fails _ (lt-ltb (past .last .0) (value K)) x)), refl)))
+      (λ x. (UseLineCalls.not-rising s (i .0) (i .1) (omega (arith, fails _ (lt-ltb (past .last .0) (value K)) x)), refl)))
       (λ j. from-rule UseCalls useTotals BadTotals n q place
-      (λ x. (UseCallsFor.bad-totals s (i .0) (i .1) (ltb-true _ _ (unless-fine _ NotRising n j)) (fails _ (totals-fit-is p (past .sum + value CT) (past .run) .1) x), refl)))))
+      (λ x. (UseLineCalls.bad-totals s (i .0) (i .1) (ltb-true _ _ (unless-fine _ NotRising n j)) (fails _ (totals-fit-is p (past .sum + value CT) (past .run) .1) x), refl)))))
 
-  pub use-given : {q : ℕ} → UseCallsFor past k r c ct q → Refuses useFault q n
-  use-given (UseCallsFor.bad-field h) = by-first _ _ 3 n (is-rule useFormed BadField n (failing useFormed use-stated (λ s. h _ _ _ _ (s .states))))
-  use-given (UseCallsFor.out-of-range {K = M} {N = v} {C = x} {CT = y} s h) =
+  pub use-given : {q : ℕ} → UseLineCalls past k r c ct q → Refuses useFault q n
+  use-given (UseLineCalls.bad-field h) = by-first _ _ 3 n (is-rule useFormed BadField n (failing useFormed use-stated (λ s. h _ (s .1))))
+  use-given (UseLineCalls.out-of-range {u} s h) =
       rw (count-stated (s .resource) .is, count-stated (s .requests) .is, time-stated (s .longest) .is, time-stated (s .total) .is)
-      (by-first _ _ 4 n (is-rule (within 1 maxResources M && usedInRange (aPair v (x .held) (y .held))) OutOfRange n (failing _ (in-range M (aPair v (x .held) (y .held)) .0) h)))
-  use-given (UseCallsFor.not-rising {K = M} {N = v} {C = x} {CT = y} s i u h) =
-      rw (count-stated (s .resource) .is, count-stated (s .requests) .is, time-stated (s .longest) .is, time-stated (s .total) .is, range-is 1 maxResources M .1 i, used-range-is (aPair v (x .held) (y .held)) .1 u)
-      (by-first _ _ 6 n (is-rule _ NotRising n (le-ltb (past .last .0) M h)))
-  use-given (UseCallsFor.bad-totals {K = M} {N = v} {C = x} {CT = y} s i u l h) =
-      rw (count-stated (s .resource) .is, count-stated (s .requests) .is, time-stated (s .longest) .is, time-stated (s .total) .is, range-is 1 maxResources M .1 i, used-range-is (aPair v (x .held) (y .held)) .1 u, lt-ltb (past .last .0) M l)
-      (is-rule _ BadTotals n (failing _ (totals-fit-is (aPair v (x .held) (y .held)) (past .sum + y .held) (past .run) .0) h))
+      (by-first _ _ 4 n (is-rule (within 1 maxResources (u .K) && usedInRange (heldPair u)) OutOfRange n (failing _ (in-range (u .K) (heldPair u) .0) h)))
+  use-given (UseLineCalls.not-rising {u} s i g h) =
+      rw (count-stated (s .resource) .is, count-stated (s .requests) .is, time-stated (s .longest) .is, time-stated (s .total) .is, range-is 1 maxResources (u .K) .1 i, used-range-is (heldPair u) .1 g)
+      (by-first _ _ 6 n (is-rule _ NotRising n (le-ltb (past .last .0) (u .K) h)))
+  use-given (UseLineCalls.bad-totals {u} s i g l h) =
+      rw (count-stated (s .resource) .is, count-stated (s .requests) .is, time-stated (s .longest) .is, time-stated (s .total) .is, range-is 1 maxResources (u .K) .1 i, used-range-is (heldPair u) .1 g, lt-ltb (past .last .0) (u .K) l)
+      (is-rule _ BadTotals n (failing _ (totals-fit-is (heldPair u) (past .sum + u .CT .held) (past .run) .0) h))

@@ -1,8 +1,6 @@
--- A line's form is that it is a line of words (specs/Stated.antt).
---     form-line, line-form   a line of this form is the line of this word and its fields, and the other way round
---     field-alone            nothing in a field parts fields
+-- A line of a form is the line of its word and its fields (specs/Stated.antt): `form-line`.
 -- Assumes nothing.
-use Prim.Native.Nat.{ℕ, zero, suc, _+_, _≤_}
+use Prim.Native.Nat.{ℕ, zero, suc, _+_}
 use Prim.Native.String.{String}
 use mathlib.Core.Path.{_≡_, refl, sym, ap, _∙_}
 use mathlib.Core.Bool.{Bool, true, false, _||_, true≢false}
@@ -11,13 +9,13 @@ use native.Mathlib.Omega.{arith}
 use lib.ListN.{length, getD, drop, drop-of-length-le}
 use lib.Seq.{drop-cons}
 use lib.Dec.{eqb}
-use borrow.Author.Tests.{eq-eqb, ne-eqb, eqb-true}
+use borrow.Author.Tests.{ne-eqb, eqb-true}
 use Rattle.basics.specs.Choice.{pick}
 use Rattle.basics.specs.Text.{bytes, ending}
 use Rattle.basics.proofs.ChoiceLaws.{and-true}
-use Rattle.field.specs.Number.{apart, first, ends}
-use Rattle.line.specs.Fields.{others, fields, filled, fieldCount, same, form}
-use Rattle.line.specs.Stated.{Without, no-byte, one-byte, IsField, AreFields, none, more, IsLine}
+use Rattle.field.specs.Number.{apart, first}
+use Rattle.line.specs.Fields.{others, fields, filled, fieldCount, form}
+use Rattle.line.specs.Stated.{Without, no-byte, one-byte, AreFields, none, more, IsLine}
 use Rattle.line.proofs.FieldLaws.{form-fields}
 
 -- ---- bytes that a text has not
@@ -25,7 +23,7 @@ use Rattle.line.proofs.FieldLaws.{form-fields}
 in-field : (b : ℕ) → apart b ≡ false → (b ≡ 32 → ⊥) × (b ≡ 10 → ⊥)
 in-field b e = (λ q. true≢false (sym (ap apart q) ∙ e), λ q. true≢false (sym (ap apart q) ∙ e))
 
-field-in : (b : ℕ) → (b ≡ 32 → ⊥) → (b ≡ 10 → ⊥) → apart b ≡ false
+pub field-in : (b : ℕ) → (b ≡ 32 → ⊥) → (b ≡ 10 → ⊥) → apart b ≡ false
 field-in b n m = rw (ne-eqb b 32 n, ne-eqb b 10 m)
 
 pub field-alone : {w : List ℕ} → Without 32 w → Without 10 w → first w ≡ w
@@ -100,71 +98,3 @@ form-line word k l n e =
     let f = form-fields (bytes word) k l e in
     let o = listed-is k 0 (others l) (omega arith) in
     rw (← o) (record { text = line-text n ∙ rw (f .1); fields = fields-are (others l) (others-field l) (filled-rest (first l) (others l) (form-filled (bytes word) k l e)) })
-
--- ---- the form of a line of words
-
-first-end : (l z : List ℕ) → ends z ≡ true → first (l ++ z) ≡ first l
-first-end [] [] e = refl
-first-end [] (b ∷ z) e = rw e
-first-end (b ∷ l) z e = rw (first-end l z e)
-
-others-end : (l : List ℕ) → others (l ++ (10 ∷ [])) ≡ others l ++ ([] ∷ [])
-others-end [] = refl
-others-end (b ∷ l) = rw (first-end l (10 ∷ []) refl, others-end l) (go (apart b))
-  where
-    go : (t : Bool) → pick t (first l ∷ (others l ++ ([] ∷ []))) (others l ++ ([] ∷ [])) ≡ pick t (first l ∷ others l) (others l) ++ ([] ∷ [])
-    go true = refl
-    go false = refl
-
-ending-ends : (ws : List (List ℕ)) → ends (ending ws) ≡ true
-ending-ends [] = refl
-ending-ends (w ∷ ws) = refl
-
-word-others : {w : List ℕ} (z : List ℕ) → Without 32 w → Without 10 w → others (w ++ z) ≡ others z
-word-others z no-byte no-byte = refl
-word-others z (one-byte {c} n r) (one-byte m q) = rw (field-in c n m) (word-others z r q)
-
-ending-others : {ws : List (List ℕ)} → AreFields ws → others (ending ws) ≡ ws ++ ([] ∷ [])
-ending-others none = refl
-ending-others (more {w} {ws} a r) =
-    rw (first-end w (ending ws) (ending-ends ws), field-alone (a .no-space) (a .no-end), word-others (ending ws) (a .no-space) (a .no-end), ending-others r)
-
--- all but the last
-initial : List (List ℕ) → List (List ℕ)
-initial [] = []
-initial (w ∷ []) = []
-initial (w ∷ v ∷ ws) = w ∷ initial (v ∷ ws)
-
-initial-is : (ws : List (List ℕ)) (v : List ℕ) → initial (ws ++ (v ∷ [])) ≡ ws
-unfolding initial
-initial-is [] v = refl
-initial-is (w ∷ []) v = refl
-initial-is (w ∷ u ∷ ws) v = rw (initial-is (u ∷ ws) v)
-
-same-self : (w : List ℕ) → same w w ≡ true
-same-self [] = refl
-same-self (b ∷ w) = rw (eq-eqb b b refl, same-self w)
-
-filled-fields : {ws : List (List ℕ)} → AreFields ws → filled ws ≡ true
-filled-fields none = refl
-filled-fields (more {w} {ws} a r) = go w (a .some) (filled-fields r)
-  where
-    go : (w : List ℕ) → 1 ≤ length w → filled ws ≡ true → filled (w ∷ ws) ≡ true
-    go [] h ih = absurd (omega arith)
-    go (b ∷ w) h ih = ih
-
-pub line-fields : {word : String} {ws : List (List ℕ)} {l : List ℕ} → IsField (bytes word) → IsLine word ws l → (first l ≡ bytes word) × (others l ≡ ws)
-line-fields {word} {ws} {l} a r = (
-  sym (first-end l (10 ∷ []) refl) ∙ ap first (r .text) ∙ first-end (bytes word) (ending ws) (ending-ends ws) ∙ field-alone (a .no-space) (a .no-end),
-  sym (initial-is (others l) []) ∙ ap initial (sym (others-end l) ∙ ap others (r .text) ∙ word-others (ending ws) (a .no-space) (a .no-end) ∙ ending-others (r .fields)) ∙ initial-is ws [],
-)
-
-pub line-form : {word : String} {ws : List (List ℕ)} {l : List ℕ} → IsField (bytes word) → IsLine word ws l → form (bytes word) (suc (length ws)) l ≡ true
-unfolding fieldCount
-line-form {word} {ws} {l} a r =
-    let f = line-fields a r in
-    rw (f .0, f .1, filled-fields (more a (r .fields)), eq-eqb (suc (length ws)) (suc (length ws)) refl, same-self (bytes word))
-
--- a line of one form is of no form with another number of fields
-pub form-other : (w v : List ℕ) (k j : ℕ) (s : List ℕ) → form w k s ≡ true → eqb k j ≡ false → form v j s ≡ false
-form-other w v k j s f e = rw (eqb-true (fieldCount s) k (and-true (eqb (fieldCount s) k) _ f .0), e)

@@ -6,7 +6,6 @@ use mathlib.Core.List.{List, [], _∷_}
 use Rattle.basics.specs.Exactly.{_exactly-if_}
 use Rattle.table.specs.declared.Refusal.{Refusal}
 use Rattle.table.specs.Limits.{maxCpus, maxTasks, maxResources}
-use Rattle.table.specs.At.{aPair}
 use Rattle.table.specs.Faults.{Told}
 use Rattle.table.specs.Refusals.{InRange, TimesInRange, TimesInOrder, UsedInRange, TotalsFit}
 use Rattle.field.specs.Spelling.{Time, StatesCount}
@@ -14,38 +13,36 @@ use Rattle.line.specs.declared.Past.{Past}
 use Rattle.line.specs.declared.Said.{Said}
 use Rattle.line.specs.declared.Said.the-variants.{Not}
 use Rattle.line.specs.Line.{lineSays}
-use Rattle.line.specs.Stated.{Without, IsLine, StatesTask, StatesUse}
+use Rattle.line.specs.Stated.{Without, IsLine, StatesTask, UseFigures, StatesUse, heldPair}
 
 -- ---- "within a line 2, 3, 8, 4, 5, 6, 7, the first fault deciding": from 3 on, by its fields
 
 -- `cpus M`
-pub data CpusCallsFor (m : List ℕ) : ℕ → Type 0 where
+pub data CpusLineCalls (m : List ℕ) : ℕ → Type 0 where
   -- "a field badly formed"
-  bad-field : ((M : ℕ) → StatesCount m M → ⊥) → CpusCallsFor m 3
+  bad-field : ((M : ℕ) → StatesCount m M → ⊥) → CpusLineCalls m 3
   -- "a number outside its range"
-  out-of-range : {M : ℕ} → StatesCount m M → (InRange 1 maxCpus M → ⊥) → CpusCallsFor m 4
+  out-of-range : {M : ℕ} → StatesCount m M → (InRange 1 maxCpus M → ⊥) → CpusLineCalls m 4
 
 -- `task T C D`
-pub data TaskCallsFor (past : Past) (t c d : List ℕ) : ℕ → Type 0 where
-  bad-field : ((T C D : Time) → StatesTask t c d T C D → ⊥) → TaskCallsFor past t c d 3
+pub data TaskLineCalls (past : Past) (t c d : List ℕ) : ℕ → Type 0 where
+  bad-field : ((T C D : Time) → StatesTask t c d T C D → ⊥) → TaskLineCalls past t c d 3
   -- "more than 32 tasks"
-  too-many : {T C D : Time} → StatesTask t c d T C D → maxTasks ≤ past .tasks → TaskCallsFor past t c d 8
-  out-of-range : {T C D : Time} → StatesTask t c d T C D → past .tasks < maxTasks → (TimesInRange (T .held) (C .held) (D .held) → ⊥) → TaskCallsFor past t c d 4
+  too-many : {T C D : Time} → StatesTask t c d T C D → maxTasks ≤ past .tasks → TaskLineCalls past t c d 8
+  out-of-range : {T C D : Time} → StatesTask t c d T C D → past .tasks < maxTasks → (TimesInRange (T .held) (C .held) (D .held) → ⊥) → TaskLineCalls past t c d 4
   -- "C above D, or D above T"
   bad-times : {T C D : Time} → StatesTask t c d T C D → past .tasks < maxTasks → TimesInRange (T .held) (C .held) (D .held)
-      → (TimesInOrder (T .held) (C .held) (D .held) → ⊥) → TaskCallsFor past t c d 5
+      → (TimesInOrder (T .held) (C .held) (D .held) → ⊥) → TaskLineCalls past t c d 5
 
 -- `use K N c CT`
-pub data UseCallsFor (past : Past) (k n c ct : List ℕ) : ℕ → Type 0 where
-  bad-field : ((K N : ℕ) (C CT : Time) → StatesUse k n c ct K N C CT → ⊥) → UseCallsFor past k n c ct 3
-  out-of-range : {K N : ℕ} {C CT : Time} → StatesUse k n c ct K N C CT
-      → (InRange 1 maxResources K × UsedInRange (aPair N (C .held) (CT .held)) → ⊥) → UseCallsFor past k n c ct 4
+pub data UseLineCalls (past : Past) (k n c ct : List ℕ) : ℕ → Type 0 where
+  bad-field : ((u : UseFigures) → StatesUse k n c ct u → ⊥) → UseLineCalls past k n c ct 3
+  out-of-range : {u : UseFigures} → StatesUse k n c ct u → (InRange 1 maxResources (u .K) × UsedInRange (heldPair u) → ⊥) → UseLineCalls past k n c ct 4
   -- "K not above the K before it in the task"
-  not-rising : {K N : ℕ} {C CT : Time} → StatesUse k n c ct K N C CT → InRange 1 maxResources K → UsedInRange (aPair N (C .held) (CT .held))
-      → K ≤ past .last .0 → UseCallsFor past k n c ct 6
+  not-rising : {u : UseFigures} → StatesUse k n c ct u → InRange 1 maxResources (u .K) → UsedInRange (heldPair u) → u .K ≤ past .last .0 → UseLineCalls past k n c ct 6
   -- "c ≤ CT ≤ N × c fails, or the CT so far sum above C"
-  bad-totals : {K N : ℕ} {C CT : Time} → StatesUse k n c ct K N C CT → InRange 1 maxResources K → UsedInRange (aPair N (C .held) (CT .held))
-      → past .last .0 < K → (TotalsFit (aPair N (C .held) (CT .held)) (past .sum + CT .held) (past .run) → ⊥) → UseCallsFor past k n c ct 7
+  bad-totals : {u : UseFigures} → StatesUse k n c ct u → InRange 1 maxResources (u .K) → UsedInRange (heldPair u) → past .last .0 < u .K
+      → (TotalsFit (heldPair u) (past .sum + u .CT .held) (past .run) → ⊥) → UseLineCalls past k n c ct 7
 
 -- ---- line n, after what the lines before it leave: `cpus` first and only there, `use` after a task
 
@@ -54,9 +51,9 @@ pub data LineCallsFor (past : Past) (n : ℕ) (s : List ℕ) : ℕ → Type 0 wh
   bad-form : (n ≡ 1 → (m : List ℕ) → IsLine "cpus" (m ∷ []) s → ⊥)
       → (1 < n → (t c d : List ℕ) → IsLine "task" (t ∷ c ∷ d ∷ []) s → ⊥)
       → (1 ≤ past .tasks → (k r c ct : List ℕ) → IsLine "use" (k ∷ r ∷ c ∷ ct ∷ []) s → ⊥) → LineCallsFor past n s 2
-  cpus-line : {m : List ℕ} {number : ℕ} → n ≡ 1 → IsLine "cpus" (m ∷ []) s → CpusCallsFor m number → LineCallsFor past n s number
-  task-line : {t c d : List ℕ} {number : ℕ} → 1 < n → IsLine "task" (t ∷ c ∷ d ∷ []) s → TaskCallsFor past t c d number → LineCallsFor past n s number
-  use-line : {k r c ct : List ℕ} {number : ℕ} → 1 ≤ past .tasks → IsLine "use" (k ∷ r ∷ c ∷ ct ∷ []) s → UseCallsFor past k r c ct number
+  of-cpus : {m : List ℕ} {number : ℕ} → n ≡ 1 → IsLine "cpus" (m ∷ []) s → CpusLineCalls m number → LineCallsFor past n s number
+  of-task : {t c d : List ℕ} {number : ℕ} → 1 < n → IsLine "task" (t ∷ c ∷ d ∷ []) s → TaskLineCalls past t c d number → LineCallsFor past n s number
+  of-use : {k r c ct : List ℕ} {number : ℕ} → 1 ≤ past .tasks → IsLine "use" (k ∷ r ∷ c ∷ ct ∷ []) s → UseLineCalls past k r c ct number
       → LineCallsFor past n s number
 
 -- ---- the two agree: a line is refused with the number that it calls for, and at its own number

@@ -5,6 +5,7 @@ use mathlib.Core.Path.{_≡_}
 use mathlib.Core.List.{List, [], _∷_, _++_}
 use lib.ListN.{length}
 use Rattle.basics.specs.Text.{lineOf}
+use Rattle.table.specs.declared.Pair.{Pair}
 use Rattle.field.specs.declared.Rounding.the-variants.{Down, Up}
 use Rattle.field.specs.Spelling.{Time, StatesTime, StatesCount}
 
@@ -39,9 +40,19 @@ pub record StatesTask (t c d : List ℕ) (T C D : Time) : Type 0 where
   pub run : StatesTime Up c C
   pub deadline : StatesTime Down d D
 
--- `use K N c CT`
-pub record StatesUse (k n c ct : List ℕ) (K N : ℕ) (C CT : Time) : Type 0 where
-  pub resource : StatesCount k K
-  pub requests : StatesCount n N
-  pub longest : StatesTime Up c C
-  pub total : StatesTime Up ct CT
+-- `use K N c CT`: these figures
+pub record UseFigures : Type 0 where
+  pub K : ℕ
+  pub N : ℕ
+  pub c : Time
+  pub CT : Time
+
+pub record StatesUse (k n c ct : List ℕ) (u : UseFigures) : Type 0 where
+  pub resource : StatesCount k (u .K)
+  pub requests : StatesCount n (u .N)
+  pub longest : StatesTime Up c (u .c)
+  pub total : StatesTime Up ct (u .CT)
+
+-- and the pair that the table holds of them
+abbrev pub heldPair : UseFigures → Pair
+heldPair u = record { requests = u .N; longest = u .c .held; total = u .CT .held }

@@ -18,7 +18,8 @@ use Rattle.table.specs.Limits.{maxTasks, maxResources}
 use Rattle.table.specs.Empty.{unusedPair}
 use Rattle.table.specs.At.{noTask, totalOf}
 use Rattle.table.specs.Accepted.{GoodPair, GoodTask, Accepted}
-use Rattle.meaning.specs.Figures.{UseFigures, TaskFigures, Figures, GoodUses, GoodTaskFigures, GoodTasks, GoodFigures, heldPair, useFor, pairFor, taskOf, taskFor, tableOf}
+use Rattle.line.specs.Stated.{UseFigures, heldPair}
+use Rattle.meaning.specs.Figures.{TaskFigures, Figures, GoodUses, GoodTaskFigures, GoodTasks, GoodFigures, useFor, pairFor, taskOf, taskFor, tableOf}
 use Rattle.basics.proofs.RowLaws.{row-at}
 
 good-pair : {C last sum : ℕ} {us : List UseFigures} (k : ℕ) → GoodUses C last sum us → (pairFor us k ≡ unusedPair) ⊎ GoodPair (pairFor us k)

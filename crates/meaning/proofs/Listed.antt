@@ -16,14 +16,14 @@ use Rattle.line.specs.declared.Said.{Said}
 use Rattle.line.specs.declared.Said.the-variants.{Cpus, Not}
 use Rattle.line.specs.Fields.{others, form}
 use Rattle.line.specs.Line.{countIn, lineSays}
-use Rattle.line.specs.Stated.{Without, none, more}
+use Rattle.line.specs.Stated.{Without, none, more, UseFigures}
 use Rattle.line.proofs.WordLaws.{listed, form-line}
 use Rattle.line.proofs.StatedLaws.{others-alone, count-in, count-field}
 use Rattle.line.proofs.LineRules.{CpusRules, Line, is-cpus, is-task, is-use, is-not}
 use Rattle.line.proofs.Says.{line-is}
 use Rattle.listing.specs.Lines.{lines, endsInLF}
 use Rattle.listing.specs.Read.{fresh, pastAfter, tableAfter, readEnd, readLines}
-use Rattle.meaning.specs.Figures.{UseFigures, Figures, StatesUses, StatesFigures, cpus-line, GoodUses, GoodSoFar, tableOf}
+use Rattle.meaning.specs.Figures.{Figures, StatesUses, StatesFigures, cpus-line, GoodUses, GoodSoFar, tableOf}
 use Rattle.meaning.specs.Refusals.{leftBy, linesOf}
 use Rattle.meaning.proofs.SplitLaws.{Start, start-of, no-line-of, no-lines, line-split, line-text}
 use Rattle.meaning.proofs.SaysLaws.{cpus-word, says-cpus}

@@ -10,11 +10,11 @@ use lib.Seq.{drop-append-seam}
 use Rattle.basics.specs.Text.{bytes, lineOf}
 use Rattle.field.proofs.OneNumber.{count-one, time-one}
 use Rattle.line.specs.Fields.{others}
-use Rattle.line.specs.Stated.{IsField, AreFields, none, more}
-use Rattle.line.proofs.WordLaws.{line-fields}
+use Rattle.line.specs.Stated.{IsField, AreFields, none, more, UseFigures}
+use Rattle.line.proofs.LineForm.{line-fields}
 use Rattle.line.proofs.StatedLaws.{count-field}
 use Rattle.listing.specs.Lines.{lines}
-use Rattle.meaning.specs.Figures.{UseFigures, TaskFigures, Figures, StatesUses, use-line, StatesTasks, task-line, StatesFigures, cpus-line}
+use Rattle.meaning.specs.Figures.{TaskFigures, Figures, StatesUses, use-line, StatesTasks, task-line, StatesFigures, cpus-line}
 use Rattle.meaning.specs.Meaning.{Unambiguous}
 use Rattle.meaning.proofs.SplitLaws.{line-split, begun}
 use Rattle.meaning.proofs.SaysLaws.{cpus-word, task-word, use-word}

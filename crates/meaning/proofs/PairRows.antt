@@ -15,7 +15,8 @@ use Rattle.table.specs.Limits.{maxResources}
 use Rattle.table.specs.Empty.{unusedPair}
 use Rattle.basics.specs.Over.{rowTo}
 use Rattle.basics.proofs.RowLaws.{row-is}
-use Rattle.meaning.specs.Figures.{UseFigures, GoodUses, heldPair, useFor, pairFor}
+use Rattle.line.specs.Stated.{UseFigures, heldPair}
+use Rattle.meaning.specs.Figures.{GoodUses, useFor, pairFor}
 
 abbrev pub putPairs : List Pair → List UseFigures → List Pair
 putPairs ps [] = ps

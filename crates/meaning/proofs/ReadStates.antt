@@ -18,14 +18,14 @@ use Rattle.line.specs.declared.Said.{Said}
 use Rattle.line.specs.declared.Said.the-variants.{Not}
 use Rattle.line.specs.Fields.{others, form}
 use Rattle.line.specs.Line.{countIn, timeIn, lineSays}
-use Rattle.line.specs.Stated.{Without}
+use Rattle.line.specs.Stated.{Without, UseFigures}
 use Rattle.line.proofs.WordLaws.{listed, form-line}
 use Rattle.line.proofs.StatedLaws.{others-alone, timeOf, count-in, time-in}
 use Rattle.line.proofs.LineRules.{TaskRules, UseRules, Line, is-cpus, is-task, is-use, is-not}
 use Rattle.line.proofs.Says.{line-is}
 use Rattle.listing.specs.Lines.{lines}
 use Rattle.listing.specs.Read.{fresh}
-use Rattle.meaning.specs.Figures.{UseFigures, TaskFigures, StatesUses, use-line, StatesTasks, task-line, GoodUses, GoodTasks}
+use Rattle.meaning.specs.Figures.{TaskFigures, StatesUses, use-line, StatesTasks, task-line, GoodUses, GoodTasks}
 use Rattle.meaning.specs.Refusals.{sumCT, linesOf}
 use Rattle.meaning.proofs.SplitLaws.{Start, start-of, no-line-of, line-text}
 use Rattle.meaning.proofs.StatesRead.{pastUses, pastTasks, past-more}

@@ -12,7 +12,6 @@ use Rattle.table.specs.declared.Pair.{Pair}
 use Rattle.table.specs.declared.Resource.{Resource}
 use Rattle.table.specs.Limits.{maxCpus, maxTasks, maxResources}
 use Rattle.table.proofs.RuleLaws.{times-fine, used-range, used-totals}
-use Rattle.table.specs.At.{aPair}
 use Rattle.table.specs.Accepted.{GoodTimes, GoodPair}
 use Rattle.field.specs.Spelling.{Time, StatesCount}
 use Rattle.field.specs.declared.Field.{Field}
@@ -20,8 +19,8 @@ use Rattle.line.specs.declared.Past.{Past}
 use Rattle.line.specs.declared.Said.the-variants.{Cpus, Task as TaskLine, Use}
 use Rattle.line.specs.Fields.{form}
 use Rattle.line.specs.Line.{cpusLine, taskLine, useLine, lineSays}
-use Rattle.line.specs.Stated.{IsField, IsLine, StatesTask, StatesUse}
-use Rattle.line.proofs.WordLaws.{line-fields, line-form, form-other}
+use Rattle.line.specs.Stated.{IsField, IsLine, StatesTask, UseFigures, StatesUse, heldPair}
+use Rattle.line.proofs.LineForm.{line-fields, line-form, form-other}
 use Rattle.line.proofs.StatedLaws.{alone-field, count-stated, time-stated}
 use Rattle.line.proofs.LineRules.{CpusRules, TaskRules, UseRules}
 
@@ -72,9 +71,8 @@ module _ (past : Past) (n : ℕ) (s : List ℕ) where
       rw (form-other (bytes "task") (bytes "cpus") 4 2 s f refl, f, lt-ltb 1 n h, line-fields task-word l .1)
       (task-said n (record { period = time-stated (x .period); run = time-stated (x .run); deadline = time-stated (x .deadline); room = room; times = g }))
 
-  pub says-use : {k r c ct : List ℕ} {K N : ℕ} {C CT : Time} → IsLine "use" (k ∷ r ∷ c ∷ ct ∷ []) s → 0 < past .tasks → StatesUse k r c ct K N C CT
-      → K ≤ maxResources → past .last .0 < K → GoodPair (aPair N (C .held) (CT .held)) → past .sum + CT .held ≤ past .run
-      → lineSays past n s ≡ Use (record { 0 = K }) (aPair N (C .held) (CT .held))
+  pub says-use : {k r c ct : List ℕ} {u : UseFigures} → IsLine "use" (k ∷ r ∷ c ∷ ct ∷ []) s → 0 < past .tasks → StatesUse k r c ct u → u .K ≤ maxResources
+      → past .last .0 < u .K → GoodPair (heldPair u) → past .sum + u .CT .held ≤ past .run → lineSays past n s ≡ Use (record { 0 = u .K }) (heldPair u)
   unfolding lineSays
   says-use l h x most rising g fits =
       let f : form (bytes "use") 5 s ≡ true = line-form use-word l in

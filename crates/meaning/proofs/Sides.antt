@@ -16,7 +16,8 @@ use Rattle.table.specs.At.{noTask, taskAt, pairOf}
 use Rattle.field.specs.declared.Rounding.the-variants.{Down, Up}
 use Rattle.field.specs.Spelling.{RoundedTo}
 use Rattle.field.proofs.RoundingLaws.{whole-to}
-use Rattle.meaning.specs.Figures.{UseFigures, TaskFigures, noFigures, Figures, StatesUses, use-line, StatesTasks, task-line, StatesFigures, cpus-line, GoodFigures, heldPair, useFor, pairFor, taskOf, taskFor, tableOf}
+use Rattle.line.specs.Stated.{UseFigures, heldPair}
+use Rattle.meaning.specs.Figures.{TaskFigures, noFigures, Figures, StatesUses, use-line, StatesTasks, task-line, StatesFigures, cpus-line, GoodFigures, useFor, pairFor, taskOf, taskFor, tableOf}
 use Rattle.meaning.specs.Sides.{taskFigures, OnTheirSides, Sides}
 use Rattle.meaning.proofs.Meaning.{correct}
 use Rattle.meaning.proofs.OneReading.{unambiguous}

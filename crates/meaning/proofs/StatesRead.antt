@@ -17,11 +17,11 @@ use Rattle.line.specs.declared.Past.{Past}
 use Rattle.line.specs.declared.Said.{Said}
 use Rattle.line.specs.declared.Said.the-variants.{Task as TaskLine, Use}
 use Rattle.line.specs.Line.{lineSays}
-use Rattle.line.specs.Stated.{IsField, AreFields, none, more, IsLine, StatesTask, StatesUse}
+use Rattle.line.specs.Stated.{IsField, AreFields, none, more, IsLine, StatesTask, StatesUse, UseFigures, heldPair}
 use Rattle.line.proofs.StatedLaws.{count-field, time-field}
 use Rattle.listing.specs.Lines.{lines, endsInLF}
 use Rattle.listing.specs.Read.{fresh, pastAfter, tableAfter, onSaid, readLines}
-use Rattle.meaning.specs.Figures.{UseFigures, TaskFigures, StatesUses, use-line, StatesTasks, task-line, heldPair, GoodUses, GoodTasks}
+use Rattle.meaning.specs.Figures.{TaskFigures, StatesUses, use-line, StatesTasks, task-line, GoodUses, GoodTasks}
 use Rattle.meaning.specs.Refusals.{lastTask, lastK, sumCT, leftOf, leftBy, linesOf}
 use Rattle.meaning.proofs.SplitLaws.{line-split, line-shut, begun}
 use Rattle.meaning.proofs.SaysLaws.{task-word, use-word, says-task, says-use}
@@ -60,7 +60,7 @@ past-all (x ∷ xs) = ap (λ (k : ℕ). leftOf k (lastTask x xs)) (zero-add (suc
 pub task-fields : {t c d : List ℕ} {x y z : Time} → StatesTask t c d x y z → AreFields (t ∷ c ∷ d ∷ [])
 task-fields s = more (time-field (s .period)) (more (time-field (s .run)) (more (time-field (s .deadline)) none))
 
-pub use-fields : {k n c ct : List ℕ} {K N : ℕ} {x y : Time} → StatesUse k n c ct K N x y → AreFields (k ∷ n ∷ c ∷ ct ∷ [])
+pub use-fields : {k n c ct : List ℕ} {u : UseFigures} → StatesUse k n c ct u → AreFields (k ∷ n ∷ c ∷ ct ∷ [])
 use-fields s = more (count-field (s .resource)) (more (count-field (s .requests)) (more (time-field (s .longest)) (more (time-field (s .total)) none)))
 
 -- the uses of the last task, and then what follows them

@@ -17,7 +17,8 @@ use Rattle.table.specs.At.{noTask}
 use Rattle.line.specs.declared.Said.the-variants.{Task as TaskLine, Use}
 use Rattle.listing.specs.Read.{newTask, withPair, tableAfter}
 use Rattle.basics.specs.Over.{rowTo}
-use Rattle.meaning.specs.Figures.{UseFigures, TaskFigures, GoodTaskFigures, GoodTasks, heldPair, taskOf, taskFor, tableOf}
+use Rattle.line.specs.Stated.{UseFigures, heldPair}
+use Rattle.meaning.specs.Figures.{TaskFigures, GoodTaskFigures, GoodTasks, taskOf, taskFor, tableOf}
 use Rattle.basics.proofs.RowLaws.{row-is}
 use Rattle.meaning.proofs.PairRows.{putPairs, pairs-stored}
 

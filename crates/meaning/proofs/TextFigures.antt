@@ -21,8 +21,9 @@ use Rattle.table.specs.Empty.{unusedPair, emptyTask}
 use Rattle.table.specs.At.{taskAt, pairOf, totalOf}
 use Rattle.table.specs.Accepted.{GoodPair, GoodTask, Accepted}
 use Rattle.field.specs.declared.Rounding.the-variants.{Down, Up}
+use Rattle.line.specs.Stated.{UseFigures}
 use Rattle.meaning.proofs.FieldBack.{count-text, exactly, time-text}
-use Rattle.meaning.specs.Figures.{UseFigures, TaskFigures, Figures, StatesUses, StatesTasks, StatesFigures, cpus-line, GoodUses, GoodTasks, GoodFigures, pairFor, taskOf, taskFor, tableOf}
+use Rattle.meaning.specs.Figures.{TaskFigures, Figures, StatesUses, StatesTasks, StatesFigures, cpus-line, GoodUses, GoodTasks, GoodFigures, pairFor, taskOf, taskFor, tableOf}
 use Rattle.writing.specs.Write.{useText, pairText, taskText, textOf}
 use Rattle.table.specs.Cleared.{clearedTask, cleared}
 use Rattle.basics.proofs.RowLaws.{row-eq}

@@ -14,7 +14,7 @@ use Rattle.table.specs.Limits.{maxCpus, maxTasks, maxResources}
 use Rattle.table.specs.Empty.{emptyTask}
 use Rattle.table.specs.Accepted.{GoodTimes, GoodPair}
 use Rattle.field.specs.Spelling.{Time, StatesCount}
-use Rattle.line.specs.Stated.{StatesTask, StatesUse}
+use Rattle.line.specs.Stated.{StatesTask, UseFigures, StatesUse, heldPair}
 
 -- ---- figures
 
@@ -22,13 +22,7 @@ use Rattle.line.specs.Stated.{StatesTask, StatesUse}
 abbrev pub noTime : Time
 noTime = record { typed = 0; held = 0 }
 
--- K, N, c and CT
-pub record UseFigures : Type 0 where
-  pub K : ℕ
-  pub N : ℕ
-  pub c : Time
-  pub CT : Time
-
+-- T, C and D, and the figures of its `use` lines
 pub record TaskFigures : Type 0 where
   pub T : Time
   pub C : Time
@@ -48,7 +42,7 @@ pub record Figures : Type 0 where
 pub data StatesUses : List ℕ → List UseFigures → Type 0 where
   no-use : StatesUses [] []
   use-line : {k n c ct rest : List ℕ} {u : UseFigures} {us : List UseFigures}
-      → StatesUse k n c ct (u .K) (u .N) (u .c) (u .CT) → StatesUses rest us → StatesUses (lineOf "use" (k ∷ n ∷ c ∷ ct ∷ []) ++ rest) (u ∷ us)
+      → StatesUse k n c ct u → StatesUses rest us → StatesUses (lineOf "use" (k ∷ n ∷ c ∷ ct ∷ []) ++ rest) (u ∷ us)
 
 pub data StatesTasks : List ℕ → List TaskFigures → Type 0 where
   no-task : StatesTasks [] []
@@ -60,10 +54,6 @@ pub data StatesFigures : List ℕ → Figures → Type 0 where
       → StatesFigures (lineOf "cpus" (m ∷ []) ++ rest) f
 
 -- ---- the rules that they obey ("Quantities"): "4, 5 and 7 are decided on the rounded values"
-
--- the pair of a `use` line, as the table holds it
-abbrev pub heldPair : UseFigures → Pair
-heldPair u = record { requests = u .N; longest = u .c .held; total = u .CT .held }
 
 -- the uses of a task with run time C, after one of resource `last`, with the CT so far
 pub data GoodUses (C : ℕ) : ℕ → ℕ → List UseFigures → Type 0 where

@@ -8,10 +8,10 @@ use Rattle.basics.specs.Exactly.{_exactly-if_}
 use Rattle.table.specs.Limits.{maxListing}
 use Rattle.table.specs.Faults.{Refuses}
 use Rattle.line.specs.declared.Past.{Past}
-use Rattle.line.specs.Stated.{Without}
+use Rattle.line.specs.Stated.{Without, UseFigures}
 use Rattle.line.specs.Refusals.{LineCallsFor, LineRefused}
 use Rattle.listing.specs.Read.{readListing}
-use Rattle.meaning.specs.Figures.{UseFigures, noFigures, TaskFigures, Figures, StatesFigures, GoodSoFar}
+use Rattle.meaning.specs.Figures.{noFigures, TaskFigures, Figures, StatesFigures, GoodSoFar}
 
 -- ---- what the lines before a line state
 

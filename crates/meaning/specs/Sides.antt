@@ -10,7 +10,8 @@ use Rattle.field.specs.declared.Rounding.the-variants.{Down, Up}
 use Rattle.field.specs.Spelling.{RoundedTo}
 use Rattle.table.specs.Answers.{accepted}
 use Rattle.listing.specs.Read.{readListing}
-use Rattle.meaning.specs.Figures.{noFigures, UseFigures, TaskFigures, Figures, StatesFigures, useFor}
+use Rattle.line.specs.Stated.{UseFigures}
+use Rattle.meaning.specs.Figures.{noFigures, TaskFigures, Figures, StatesFigures, useFor}
 
 -- ---- the figures of a task by its slot, and of a resource by its slot, both counted from 0; zeros where there are none
 

@@ -19,10 +19,11 @@ use Rattle.release.specs.Refusals.{RefusedAsCalled as CardRefusedAsCalled}
 use Rattle.recovery.specs.Refusals.{SalvagedAsCalled}
 use Rattle.analysis.specs.Answers.{boundFault, analysisFault}
 
--- ---- "10 and 11 come after these, in that order, with place 0", and 16 "after 10 and before 11"
+-- ---- after the table's own: "10 and 11 come after these, in that order, with place 0", and 16 "after 10 and before 11"
 
 -- of a task that is asked about, with an allowance of rounds
 pub data BoundCallsFor (t : Table) (i : Level) (allowance : ℕ) : ℕ → ℕ → Type 0 where
+  -- the table's own
   own : {number place : ℕ} → CallsFor t number place → BoundCallsFor t i allowance number place
   -- "the task asked about is 0 or above n"
   unknown-task : Accepted t → (i .0 ≡ 0) ⊎ (t .n < i .0) → BoundCallsFor t i allowance 10 0

@@ -17,7 +17,7 @@ use Rattle.table.specs.At.{taskAt, pairOf, totalOf}
 use Rattle.table.specs.Faults.{Refuses, unless, firstFault}
 use Rattle.table.specs.Rules.{timesInRange, timesInOrder, timesFault, pairInRange, totalsFit, pairFault, pairFaultOf, pairsFault, taskFault, taskFaultAt, tasksFault, tableFault}
 use Rattle.table.specs.Accepted.{GoodTo}
-use Rattle.table.specs.Refusals.{InRange, TimesInRange, TaskCallsFor, bad-range, bad-order, bad-pair, bad-totals, CallsFor, no-task, too-many, bad-cpus, at-task, RefusedAsCalled}
+use Rattle.table.specs.Refusals.{InRange, TimesInRange, TaskCallsFor, out-of-range, bad-times, pair-out-of-range, bad-totals, CallsFor, no-task, too-many, bad-cpus, at-task, RefusedAsCalled}
 use Rattle.table.proofs.FirstDecides.{many-decide, is-rule, from-rule, from-two, by-first, fails, failing}
 use Rattle.table.proofs.RuleFacts.{range-is, times-range-is, times-order-is, pair-range-is, totals-fit-is}
 use Rattle.table.proofs.RuleLaws.{unless-fine, times-fine}
@@ -42,8 +42,8 @@ module _ (place : ℕ) (x : Task) where
       let a = times-range-is (x .period) (x .run) (x .deadline) in
       let b = times-order-is (x .period) (x .run) (x .deadline) in
       from-two (unless (timesInRange (x .period) (x .run) (x .deadline)) OutOfRange place) (unless (timesInOrder (x .period) (x .run) (x .deadline)) BadTimes place) k p
-      (from-rule Calls _ OutOfRange place k p (λ e. (bad-range (fails _ (a .1) e), refl)))
-      (λ f. from-rule Calls _ BadTimes place k p (λ e. (bad-order (a .0 (unless-fine _ OutOfRange place f)) (fails _ (b .1) e), refl)))
+      (from-rule Calls _ OutOfRange place k p (λ e. (out-of-range (fails _ (a .1) e), refl)))
+      (λ f. from-rule Calls _ BadTimes place k p (λ e. (bad-times (a .0 (unless-fine _ OutOfRange place f)) (fails _ (b .1) e), refl)))
 
   pair-calls : (i : ℕ) → i < maxResources → GoodTo x i → (k p : ℕ) → Refuses (pairFaultOf place x i) k p → Calls k p
   unfolding pairFault
@@ -51,7 +51,7 @@ module _ (place : ℕ) (x : Task) where
       let q : Pair = pairOf x i in
       let sum = sumTo (i + 1) (totalOf x) in
       from-two (unless (pairInRange q) OutOfRange place) (unless (totalsFit q sum (x .run)) BadTotals place) k p
-      (from-rule Calls _ OutOfRange place k p (λ e. (bad-pair i h g (fails _ (pair-range-is q .1) e), refl)))
+      (from-rule Calls _ OutOfRange place k p (λ e. (pair-out-of-range i h g (fails _ (pair-range-is q .1) e), refl)))
       (λ f. from-rule Calls _ BadTotals place k p
       (λ e. (bad-totals i h g (pair-range-is q .0 (unless-fine _ OutOfRange place f)) (fails _ (totals-fit-is q sum (x .run) .1) e), refl)))
 
@@ -70,12 +70,12 @@ module _ (place : ℕ) (x : Task) where
 
   task-given : {k : ℕ} → TaskCallsFor x k → Refuses (taskFault place x) k place
   unfolding taskFault timesFault pairFault
-  task-given (bad-range n) =
+  task-given (out-of-range n) =
       by-first times _ 4 place (by-first _ _ 4 place (is-rule _ OutOfRange place (failing _ (times-range-is (x .period) (x .run) (x .deadline) .0) n)))
-  task-given (bad-order r n) =
+  task-given (bad-times r n) =
       by-first times _ 5 place
       (rw (times-range-is (x .period) (x .run) (x .deadline) .1 r) (is-rule _ BadTimes place (failing _ (times-order-is (x .period) (x .run) (x .deadline) .0) n)))
-  task-given (bad-pair i h g n) =
+  task-given (pair-out-of-range i h g n) =
       pair-given i 4 h g (by-first _ _ 4 place (is-rule _ OutOfRange place (failing _ (pair-range-is (pairOf x i) .0) n)))
   task-given (bad-totals i h g r n) =
       pair-given i 7 h g
@@ -120,9 +120,9 @@ refused-as-called =
 -- ---- which numbers a table calls for: none above 9, and with 1 to 32 tasks none above 7
 
 task-number : {x : Task} {k : ℕ} → TaskCallsFor x k → k ≤ 7
-task-number (bad-range n) = omega arith
-task-number (bad-order r n) = omega arith
-task-number (bad-pair i h g n) = omega arith
+task-number (out-of-range n) = omega arith
+task-number (bad-times r n) = omega arith
+task-number (pair-out-of-range i h g n) = omega arith
 task-number (bad-totals i h g r n) = omega arith
 
 pub number-most : {t : Table} {k p : ℕ} → CallsFor t k p → k ≤ 9

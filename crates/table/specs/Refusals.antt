@@ -52,11 +52,11 @@ pub record TotalsFit (p : Pair) (sum C : ℕ) : Type 0 where
 
 pub data TaskCallsFor (x : Task) : ℕ → Type 0 where
   -- "T, C, D (4)"
-  bad-range : (TimesInRange (x .period) (x .run) (x .deadline) → ⊥) → TaskCallsFor x 4
+  out-of-range : (TimesInRange (x .period) (x .run) (x .deadline) → ⊥) → TaskCallsFor x 4
   -- "5"
-  bad-order : TimesInRange (x .period) (x .run) (x .deadline) → (TimesInOrder (x .period) (x .run) (x .deadline) → ⊥) → TaskCallsFor x 5
+  bad-times : TimesInRange (x .period) (x .run) (x .deadline) → (TimesInOrder (x .period) (x .run) (x .deadline) → ⊥) → TaskCallsFor x 5
   -- "then resources 1 to 16, each 4": resource k + 1, where nothing is said against the times and the resources before it
-  bad-pair : (k : ℕ) → k < maxResources → GoodTo x k → (PairInRange (pairOf x k) → ⊥) → TaskCallsFor x 4
+  pair-out-of-range : (k : ℕ) → k < maxResources → GoodTo x k → (PairInRange (pairOf x k) → ⊥) → TaskCallsFor x 4
   -- "then 7"
   bad-totals : (k : ℕ) → k < maxResources → GoodTo x k → PairInRange (pairOf x k) → (TotalsFit (pairOf x k) (sumTo (k + 1) (totalOf x)) (x .run) → ⊥)
       → TaskCallsFor x 7
