@@ -72,13 +72,13 @@ line-text (one-byte {c = b} {s = l} n r) = go (apart b) refl (line-text r)
     go false e ih = rw ih
 
 -- n elements, from i on
-abbrev pub listed : ℕ → ℕ → List (List ℕ) → List (List ℕ)
-listed zero i ws = []
-listed (suc n) i ws = getD ws i [] ∷ listed n (suc i) ws
+abbrev pub fieldsFrom : ℕ → ℕ → List (List ℕ) → List (List ℕ)
+fieldsFrom zero i ws = []
+fieldsFrom (suc n) i ws = getD ws i [] ∷ fieldsFrom n (suc i) ws
 
-listed-is : (n i : ℕ) (ws : List (List ℕ)) → length ws ≡ i + n → drop i ws ≡ listed n i ws
-listed-is zero i ws e = drop-of-length-le ws {i = i} (omega arith)
-listed-is (suc n) i ws e = drop-cons ws i [] (omega arith) ∙ ap (λ (x : List (List ℕ)). getD ws i [] ∷ x) (listed-is n (suc i) ws (omega arith))
+from-is : (n i : ℕ) (ws : List (List ℕ)) → length ws ≡ i + n → drop i ws ≡ fieldsFrom n i ws
+from-is zero i ws e = drop-of-length-le ws {i = i} (omega arith)
+from-is (suc n) i ws e = drop-cons ws i [] (omega arith) ∙ ap (λ (x : List (List ℕ)). getD ws i [] ∷ x) (from-is n (suc i) ws (omega arith))
 
 form-filled : (w : List ℕ) (k : ℕ) (l : List ℕ) → form w (suc k) l ≡ true → filled (fields l) ≡ true
 unfolding fieldCount
@@ -93,8 +93,8 @@ filled-rest : (w : List ℕ) (ws : List (List ℕ)) → filled (w ∷ ws) ≡ tr
 filled-rest [] ws e = absurd (true≢false (sym e))
 filled-rest (b ∷ w) ws e = e
 
-pub form-line : (word : String) (k : ℕ) (l : List ℕ) → Without 10 l → form (bytes word) (suc k) l ≡ true → IsLine word (listed k 0 (others l)) l
+pub form-line : (word : String) (k : ℕ) (l : List ℕ) → Without 10 l → form (bytes word) (suc k) l ≡ true → IsLine word (fieldsFrom k 0 (others l)) l
 form-line word k l n e =
     let f = form-fields (bytes word) k l e in
-    let o = listed-is k 0 (others l) (omega arith) in
+    let o = from-is k 0 (others l) (omega arith) in
     rw (← o) (record { text = line-text n ∙ rw (f .1); fields = fields-are (others l) (others-field l) (filled-rest (first l) (others l) (form-filled (bytes word) k l e)) })

@@ -5,7 +5,7 @@
 --   FigureLaws    good figures make an accepted table
 --   StatesRead    lines that state figures are read to their end
 --   ReadStates    of every text a first part states figures
---   Listed        how far a listing states figures, and what is read of it up to there
+--   UpTo          how far a listing states figures, and what is read of it up to there
 --   Meaning       correct, complete, passes-check
 --   OneReading    unambiguous
 --   Sides         each figure of an accepted listing's table lies on its side of what was typed
@@ -21,7 +21,7 @@ pub mod TableLaws
 pub mod FigureLaws
 pub mod StatesRead
 pub mod ReadStates
-pub mod Listed
+pub mod UpTo
 pub mod Meaning
 pub mod OneReading
 pub mod Sides

@@ -26,7 +26,7 @@ use Rattle.meaning.specs.Refusals.{leftBy, linesOf, Before, no-line, som
 use Rattle.meaning.proofs.SplitLaws.{open-end}
 use Rattle.meaning.proofs.StatesRead.{readText}
 use Rattle.meaning.proofs.ReadStates.{Stops, at-end, at-line}
-use Rattle.meaning.proofs.Listed.{Listed, stops-first, stops-later, listed-to, figures-read, stop-line, stop-end}
+use Rattle.meaning.proofs.UpTo.{StatesUpTo, stops-first, stops-later, states-up-to, figures-read, stop-line, stop-end}
 
 -- ---- from what is called for to the answer
 
@@ -96,9 +96,9 @@ module _ (s : List ℕ) (l : length s ≤ maxListing) where
       go (inr h) = inr (goes-on s l [] Fine e b (λ t. ap (λ (y : Reading). y .answer) (stop-end t (leftBy xs) n no-byte) ∙ rw (lt-ltb 1 n (h .0), lt-ltb 0 (length xs) (h .1))))
 
   all-called : Called s ⊎ (readListing s .answer ≡ Fine)
-  all-called = go (listed-to s)
+  all-called = go (states-up-to s)
     where
-      go : Listed s → Called s ⊎ (readListing s .answer ≡ Fine)
+      go : StatesUpTo s → Called s ⊎ (readListing s .answer ≡ Fine)
       go (stops-first x) = stop-called [] s refl no-line x
       go (stops-later before left f e a g x) = stop-called before left e (some-lines a g) x
 

@@ -29,7 +29,7 @@ use Rattle.meaning.proofs.SplitLaws.{open-end}
 use Rattle.meaning.proofs.FigureLaws.{good-table}
 use Rattle.meaning.proofs.StatesRead.{readText}
 use Rattle.meaning.proofs.ReadStates.{Stops, at-end, at-line}
-use Rattle.meaning.proofs.Listed.{Listed, stops-first, stops-later, listed-to, figures-read, stop-line, stop-end}
+use Rattle.meaning.proofs.UpTo.{StatesUpTo, stops-first, stops-later, states-up-to, figures-read, stop-line, stop-end}
 
 -- ---- correct
 
@@ -56,7 +56,7 @@ end-is {t} {u} past n no-byte q = go (ltb 1 n) refl (ltb 0 (past .tasks)) refl q
 end-is past n (one-byte m r) q = absurd (refused-not refl (rw (open-end (one-byte m r) (omega arith) true) at q))
 
 text-right : (s : List ℕ) (t : Table) → readText emptyTable (fresh 0 0) 1 s ≡ accepted t → Right s t
-text-right s t q = go (listed-to s)
+text-right s t q = go (states-up-to s)
   where
     first : Stops (fresh 0 0) 1 s → Right s t
     first (at-end w) = absurd (omega (arith, end-is (fresh 0 0) 1 w (sym (stop-end emptyTable (fresh 0 0) 1 w) ∙ q) .1))
@@ -69,7 +69,7 @@ text-right s t q = go (listed-to s)
         (f, rw (e, r .0, append-nil before) states, record { so-far = g; tasks-least = r .2 }, r .3)
     later before left f e states g (at-line l rest r d w x) q = absurd (refused-not (stop-line (tableOf f) _ _ rest r w x) (rw d at q))
 
-    go : Listed s → Right s t
+    go : StatesUpTo s → Right s t
     go (stops-first x) = first x
     go (stops-later before left f e states g x) = later before left f e states g x (sym (figures-read left states g) ∙ rw e at q)
 

@@ -19,7 +19,7 @@ use Rattle.line.specs.declared.Said.the-variants.{Not}
 use Rattle.line.specs.Fields.{others, form}
 use Rattle.line.specs.Line.{countIn, timeIn, lineSays}
 use Rattle.line.specs.Stated.{Without, UseFigures}
-use Rattle.line.proofs.WordLaws.{listed, form-line}
+use Rattle.line.proofs.WordLaws.{fieldsFrom, form-line}
 use Rattle.line.proofs.StatedLaws.{others-alone, timeOf, count-in, time-in}
 use Rattle.line.proofs.LineRules.{TaskRules, UseRules, Line, is-cpus, is-task, is-use, is-not}
 use Rattle.line.proofs.Says.{line-is}
@@ -72,7 +72,7 @@ module _ (past : Past) (n : ℕ) {s : List ℕ} (m : past .tasks ≤ maxTasks) w
   task-states : {l : List ℕ} {ls : List (List ℕ)} {T C D : ℕ} (a : Start s l ls) → form (bytes "task") 4 l ≡ true
       → TaskRules past (timeIn Down l 1) (timeIn Up l 2) (timeIn Down l 3) T C D → Stating (fresh (past .tasks + 1) C) (n + 1) (a .rest) → Stating past n s
   task-states {l} {T = T} {C} {D} a f r x =
-      let line = lineOf "task" (listed 3 0 (others l)) in
+      let line = lineOf "task" (fieldsFrom 3 0 (others l)) in
       let period = time-in (others-alone l 0) Down (r .period) in
       let run = time-in (others-alone l 1) Up (r .run) in
       let deadline = time-in (others-alone l 2) Down (r .deadline) in
@@ -99,7 +99,7 @@ module _ (past : Past) (n : ℕ) {s : List ℕ} (m : past .tasks ≤ maxTasks) w
       → UseRules past (countIn l 1) (countIn l 2) (timeIn Up l 3) (timeIn Up l 4) K p
       → Stating (record { tasks = past .tasks; run = past .run; last = K; sum = past .sum + p .total }) (n + 1) (a .rest) → Stating past n s
   use-states {l} {K = K} {p} a f r x =
-      let line = lineOf "use" (listed 4 0 (others l)) in
+      let line = lineOf "use" (fieldsFrom 4 0 (others l)) in
       let longest = time-in (others-alone l 2) Up (r .longest) in
       let total = time-in (others-alone l 3) Up (r .total) in
       let u : UseFigures = record { K = K .0; N = p .requests; c = timeOf longest (p .longest); CT = timeOf total (p .total) } in

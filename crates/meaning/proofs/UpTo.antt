@@ -17,7 +17,7 @@ use Rattle.line.specs.declared.Said.the-variants.{Cpus, Not}
 use Rattle.line.specs.Fields.{others, form}
 use Rattle.line.specs.Line.{countIn, lineSays}
 use Rattle.line.specs.Stated.{Without, none, more, UseFigures}
-use Rattle.line.proofs.WordLaws.{listed, form-line}
+use Rattle.line.proofs.WordLaws.{fieldsFrom, form-line}
 use Rattle.line.proofs.StatedLaws.{others-alone, count-in, count-field}
 use Rattle.line.proofs.LineRules.{CpusRules, Line, is-cpus, is-task, is-use, is-not}
 use Rattle.line.proofs.Says.{line-is}
@@ -34,10 +34,10 @@ use Rattle.meaning.proofs.ReadStates.{Stops, at-end, at-line, Stating, 
 -- ---- how far a listing states figures
 
 -- `cpus M` and tasks, and what is left where the reading stops; or it stops at once
-pub data Listed (s : List ℕ) : Type 0 where
-  stops-first : Stops (fresh 0 0) 1 s → Listed s
+pub data StatesUpTo (s : List ℕ) : Type 0 where
+  stops-first : Stops (fresh 0 0) 1 s → StatesUpTo s
   stops-later : (before left : List ℕ) (f : Figures) → s ≡ before ++ left → StatesFigures before f → GoodSoFar f
-      → Stops (leftBy (f .tasks)) (2 + linesOf (f .tasks)) left → Listed s
+      → Stops (leftBy (f .tasks)) (2 + linesOf (f .tasks)) left → StatesUpTo s
 
 -- a task without run time has no use
 no-uses : {C last sum : ℕ} {s : List ℕ} {us : List UseFigures} → StatesUses s us → GoodUses C last sum us → C ≡ 0 → (s ≡ []) × (us ≡ [])
@@ -45,10 +45,10 @@ no-uses StatesUses.no-use GoodUses.no-use e = (refl, refl)
 no-uses (StatesUses.use-line a r) (GoodUses.one-use x y g z q) e = absurd (omega (arith, g .longest-least, g .longest-total))
 
 cpus-states : {s l : List ℕ} {ls : List (List ℕ)} (a : Start s l ls) (M : ℕ) → form (bytes "cpus") 2 l ≡ true → CpusRules (countIn l 1) M
-    → Stating (fresh 0 0) 2 (a .rest) → Listed s
+    → Stating (fresh 0 0) 2 (a .rest) → StatesUpTo s
 cpus-states {l = l} a M f r m =
     let n = no-uses (m .states-uses) (m .good-uses) refl in
-    let line = lineOf "cpus" (listed 1 0 (others l)) in
+    let line = lineOf "cpus" (fieldsFrom 1 0 (others l)) in
     let g : Figures = record { M = M; tasks = m .tasks } in
     stops-later (line ++ m .second) (m .left) g
     (a .text ∙ line-text (a .rest) (form-line "cpus" 1 l (a .clean) f) ∙ rw (m .text, n .0) (sym (append-assoc line (m .second) (m .left))))
@@ -56,17 +56,17 @@ cpus-states {l = l} a M f r m =
     (record { cpus-least = r .least; cpus-most = r .most; tasks-most = omega (arith, m .few); tasks = m .good-tasks })
     (rw (← past-all (m .tasks)) (rw (n .1, zero-add (linesOf (m .tasks))) at (m .stops)))
 
-pub listed-to : (s : List ℕ) → Listed s
+pub states-up-to : (s : List ℕ) → StatesUpTo s
 unfolding pastAfter
-listed-to s = go (lines s) refl
+states-up-to s = go (lines s) refl
   where
-    line : (l : List ℕ) (ls : List (List ℕ)) (a : Start s l ls) (x : Said) → lineSays (fresh 0 0) 1 l ≡ x → Line (fresh 0 0) 1 l x → Listed s
+    line : (l : List ℕ) (ls : List (List ℕ)) (a : Start s l ls) (x : Said) → lineSays (fresh 0 0) 1 l ≡ x → Line (fresh 0 0) 1 l x → StatesUpTo s
     line l ls a _ d (is-cpus {M} f e r) = cpus-states a M f r (states-to ls (a .rest) (fresh 0 0) 2 (a .left) (omega arith) (omega arith))
     line l ls a _ d (is-task f e r) = absurd (omega arith)
     line l ls a _ d (is-use f e r) = absurd (omega arith)
     line l ls a _ d (is-not r) = stops-first (at-line l (a .rest) r (a .text) (a .clean) d)
 
-    go : (ls : List (List ℕ)) → lines s ≡ ls → Listed s
+    go : (ls : List (List ℕ)) → lines s ≡ ls → StatesUpTo s
     go [] e = stops-first (at-end (no-line-of s e))
     go (l ∷ ls) e = line l ls (start-of s l ls e) (lineSays (fresh 0 0) 1 l) refl (line-is (fresh 0 0) 1 l)
 
