@@ -9,7 +9,7 @@ use lib.ListN.{length, drop, length-append}
 use lib.Seq.{drop-drop}
 use borrow.Author.Tests.{ne-eqb}
 use Rattle.basics.specs.Choice.{pick, within}
-use Rattle.basics.proofs.ChoiceLaws.{pick-when, within-true, within-in}
+use Rattle.basics.proofs.ChoiceLaws.{pick-when, within-in}
 use Rattle.field.specs.declared.Field.{Field}
 use Rattle.field.specs.declared.Field.the-variants.{Value, Bad}
 use Rattle.field.specs.declared.Rounding.{Rounding}
@@ -45,8 +45,7 @@ fraction-before way v at s h = rw (short-within (length (digits s)) h, short-rou
 -- digits before the point do not count
 decimals-past : (w z : List ℕ) → Digits w → decimals (w ++ z) ≡ decimals z
 decimals-past [] z none = refl
-decimals-past (b ∷ w) z (one d r) =
-    let h = within-true 48 57 b d in
+decimals-past (b ∷ w) z (one l h r) =
     rw (ne-eqb b 46 (λ q. omega arith)) (decimals-past w z r)
 
 digits-in-first : (s : List ℕ) → length (digits s) ≤ length (first s)

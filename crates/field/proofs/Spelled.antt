@@ -9,7 +9,7 @@ use native.Mathlib.Nat.{pow-succ', mul-assoc, add-mul}
 use lib.ListN.{length, length-append}
 use lib.Seq.{drop-length, drop-append-seam, drop-append-add}
 use Rattle.basics.specs.Choice.{pick}
-use Rattle.basics.proofs.ChoiceLaws.{within-in}
+use Rattle.basics.proofs.ChoiceLaws.{within-in, within-true}
 use Rattle.field.specs.declared.Field.the-variants.{Value}
 use Rattle.field.specs.declared.Rounding.{Rounding}
 use Rattle.field.specs.Number.{isDigit, digits, number, first, ends, nanos, rounded, fraction, timeField, countField}
@@ -36,19 +36,19 @@ digits-are [] = none
 digits-are (b ∷ s) = go (isDigit b) refl (digits-are s)
   where
     go : (t : Bool) → isDigit b ≡ t → Digits (digits s) → Digits (pick t (b ∷ digits s) [])
-    go true e ih = one e ih
+    go true e ih = let h = within-true 48 57 b e in one (h .0) (h .1) ih
     go false e ih = none
 
 pub digits-all : (w z : List ℕ) → Digits w → digits z ≡ [] → digits (w ++ z) ≡ w
 digits-all [] z none e = e
-digits-all (b ∷ w) z (one d r) e = rw (d, digits-all w z r e)
+digits-all (b ∷ w) z (one l h r) e = rw (within-in 48 57 b l h, digits-all w z r e)
 
 pub digits-whole : (w : List ℕ) → Digits w → digits w ≡ w
 digits-whole w d = sym (ap digits (append-nil w)) ∙ digits-all w [] d refl
 
 digits-first : (w z : List ℕ) → Digits w → first (w ++ z) ≡ w ++ first z
 digits-first [] z none = refl
-digits-first (b ∷ w) z (one d r) = rw (digit-in b d, digits-first w z r)
+digits-first (b ∷ w) z (one l h r) = rw (digit-in b (within-in 48 57 b l h), digits-first w z r)
 
 digits-to : (k : ℕ) (s : List ℕ) → AllDigits k s → DigitsTo k (digits s)
 digits-to k s a = record { digits = digits-are s; some = a .some; few = a .few }

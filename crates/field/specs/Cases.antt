@@ -55,6 +55,9 @@ times =
     ∷ case "-2" Bad
     ∷ case "2\r\n" Bad
     ∷ case "2\t" Bad
+    -- the bytes beside the digits
+    ∷ case "2/" Bad
+    ∷ case "2:" Bad
     ∷ []
 
 -- ---- more than three decimals

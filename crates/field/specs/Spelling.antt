@@ -1,17 +1,15 @@
 -- The meaning of a field said a second way, without reading it: which texts state a number, and which number.
 use Prim.Native.Nat.{ℕ, _+_, _-_, _*_, _^_, _≤_, _<_}
 use mathlib.Core.Path.{_≡_}
-use mathlib.Core.Bool.{true}
 use mathlib.Core.List.{List, [], _∷_, _++_}
 use lib.ListN.{length}
 use Rattle.field.specs.declared.Rounding.{Rounding}
 use Rattle.field.specs.declared.Rounding.the-variants.{Down, Up}
-use Rattle.field.specs.Number.{isDigit}
 
--- a text of digits and nothing else
+-- a text of digits, '0' to '9', and nothing else
 pub data Digits : List ℕ → Type 0 where
   none : Digits []
-  one : {d : ℕ} {ds : List ℕ} → isDigit d ≡ true → Digits ds → Digits (d ∷ ds)
+  one : {d : ℕ} {ds : List ℕ} → 48 ≤ d → d ≤ 57 → Digits ds → Digits (d ∷ ds)
 
 -- the number that digits are: each times the power of ten of its place
 unfoldable pub valueOf : List ℕ → ℕ

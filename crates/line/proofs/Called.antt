@@ -15,7 +15,7 @@ use Rattle.table.specs.declared.Fault.the-variants.{BadForm}
 use Rattle.table.specs.declared.Checked.{Checked}
 use Rattle.table.specs.declared.Checked.the-variants.{Fine, Refused}
 use Rattle.table.specs.Faults.{Refuses}
-use Rattle.table.proofs.FirstDecides.{fails, failing}
+use Rattle.table.proofs.Deciding.{fails, failing}
 use Rattle.line.specs.declared.Past.{Past}
 use Rattle.line.specs.declared.Said.{Said}
 use Rattle.line.specs.declared.Said.the-variants.{Not}

@@ -15,7 +15,7 @@ use Rattle.table.specs.declared.Checked.{Checked}
 use Rattle.table.specs.Limits.{maxCpus, maxTasks}
 use Rattle.table.specs.Faults.{Refuses, _then_, unless}
 use Rattle.table.specs.Rules.{timesInRange, timesInOrder, timesFault}
-use Rattle.table.proofs.FirstDecides.{is-rule, from-rule, from-two, by-first, fails, failing}
+use Rattle.table.proofs.Deciding.{is-rule, from-rule, from-two, by-first, fails, failing}
 use Rattle.table.proofs.RuleFacts.{range-is, times-range-is, times-order-is}
 use Rattle.table.proofs.RuleLaws.{unless-fine}
 use Rattle.field.specs.declared.Field.{Field}
@@ -31,8 +31,8 @@ use Rattle.line.proofs.StatedLaws.{formed-states, count-in, time-in, co
 -- ---- `cpus M`
 
 module _ (n : ℕ) {m : List ℕ} (a : first m ≡ m) where
-  abbrev pub cpusFault : Checked
-  cpusFault = unless (formed (countField m)) BadField n then unless (within 1 maxCpus (value (countField m))) OutOfRange n
+  abbrev pub cpusCheck : Checked
+  cpusCheck = unless (formed (countField m)) BadField n then unless (within 1 maxCpus (value (countField m))) OutOfRange n
 
   abbrev CpusCalls : ℕ → ℕ → Type 0
   CpusCalls k p = CpusLineCalls m k × (n ≡ p)
@@ -40,7 +40,7 @@ module _ (n : ℕ) {m : List ℕ} (a : first m ≡ m) where
   count-formed : (formed (countField m) ≡ true) exactly-if ((M : ℕ) × StatesCount m M)
   count-formed = (λ e. (_, count-in a (formed-states (countField m) e)), λ s. rw (count-stated (s .1) .is))
 
-  pub cpus-calls : (k p : ℕ) → Refuses cpusFault k p → CpusCalls k p
+  pub cpus-calls : (k p : ℕ) → Refuses cpusCheck k p → CpusCalls k p
   cpus-calls k p =
       let M : Field = countField m in
       from-two (unless (formed M) BadField n) (unless (within 1 maxCpus (value M)) OutOfRange n) k p
@@ -48,7 +48,7 @@ module _ (n : ℕ) {m : List ℕ} (a : first m ≡ m) where
       (λ f. from-rule CpusCalls (within 1 maxCpus (value M)) OutOfRange n k p
       (λ e. (CpusLineCalls.out-of-range (count-in a (formed-states M (unless-fine _ BadField n f))) (fails _ (range-is 1 maxCpus (value M) .1) e), refl)))
 
-  pub cpus-given : {k : ℕ} → CpusLineCalls m k → Refuses cpusFault k n
+  pub cpus-given : {k : ℕ} → CpusLineCalls m k → Refuses cpusCheck k n
   cpus-given (CpusLineCalls.bad-field h) = by-first _ _ 3 n (is-rule (formed (countField m)) BadField n (failing _ (count-formed .0) (λ s. h (s .0) (s .1))))
   cpus-given (CpusLineCalls.out-of-range {M} s h) = rw (count-stated s .is) (is-rule (within 1 maxCpus M) OutOfRange n (failing _ (range-is 1 maxCpus M .0) h))
 
@@ -67,8 +67,8 @@ module _ (past : Past) (n : ℕ) {t c d : List ℕ} (a : first t ≡ t) (b : fir
   abbrev timesFormed : Bool
   timesFormed = formed T && formed C && formed D
 
-  abbrev pub taskFault : Checked
-  taskFault = unless timesFormed BadField n then unless (ltb (past .tasks) maxTasks) TooManyTasks n then timesFault n (value T) (value C) (value D)
+  abbrev pub taskCheck : Checked
+  taskCheck = unless timesFormed BadField n then unless (ltb (past .tasks) maxTasks) TooManyTasks n then timesFault n (value T) (value C) (value D)
 
   abbrev TaskCalls : ℕ → ℕ → Type 0
   TaskCalls k p = TaskLineCalls past t c d k × (n ≡ p)
@@ -90,7 +90,7 @@ module _ (past : Past) (n : ℕ) {t c d : List ℕ} (a : first t ≡ t) (b : fir
   task-formed : {x y z : Time} → StatesTask t c d x y z → timesFormed ≡ true
   task-formed s = rw (time-stated (s .period) .is, time-stated (s .run) .is, time-stated (s .deadline) .is)
 
-  pub task-calls : (k p : ℕ) → Refuses taskFault k p → TaskCalls k p
+  pub task-calls : (k p : ℕ) → Refuses taskCheck k p → TaskCalls k p
   unfolding timesFault
   task-calls k p =
       let order = unless (timesInOrder (value T) (value C) (value D)) BadTimes n in
@@ -109,7 +109,7 @@ module _ (past : Past) (n : ℕ) {t c d : List ℕ} (a : first t ≡ t) (b : fir
       (λ h. from-rule TaskCalls _ BadTimes n k p
       (λ x. (TaskLineCalls.bad-times s few (in-range .0 (unless-fine _ OutOfRange n h)) (fails _ (times-order-is (value T) (value C) (value D) .1) x), refl)))))
 
-  pub task-given : {k : ℕ} → TaskLineCalls past t c d k → Refuses taskFault k n
+  pub task-given : {k : ℕ} → TaskLineCalls past t c d k → Refuses taskCheck k n
   unfolding timesFault
   task-given (TaskLineCalls.bad-field h) = by-first _ _ 3 n (is-rule timesFormed BadField n (failing timesFormed task-stated (λ s. h _ _ _ (s .states))))
   task-given (TaskLineCalls.too-many s h) = rw (task-formed s) (by-first _ _ 8 n (is-rule _ TooManyTasks n (le-ltb (past .tasks) maxTasks h)))

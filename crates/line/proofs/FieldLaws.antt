@@ -20,8 +20,8 @@ use Rattle.field.proofs.FirstField.{time-first, count-first}
 use Rattle.field.proofs.ReadAs.{time-width, count-width}
 use Rattle.line.specs.declared.FieldKind.{FieldKind}
 use Rattle.line.specs.declared.FieldKind.the-variants.{Count, TimeDown, TimeUp}
-use Rattle.line.specs.declared.Placed.{Placed}
-use Rattle.line.specs.declared.Placed.the-variants.{Number, NoNumber}
+use Rattle.line.specs.declared.FieldAt.{FieldAt}
+use Rattle.line.specs.declared.FieldAt.the-variants.{Number, NoNumber}
 use Rattle.line.specs.Fields.{others, fields, filled, fieldCount, same, form}
 use Rattle.line.specs.Places.{fieldAs, placed}
 
@@ -125,15 +125,15 @@ module _ (kind : FieldKind) {s : List ℕ} {k p : ℕ} where
   at-field : {m : ℕ} → Begins s k m p → fieldAs kind (drop p s) ≡ fieldAs kind (getD (fields s) k [])
   at-field {m} b = sym (as-alone kind (drop p s)) ∙ ap (fieldAs kind) (here s k m p b)
 
-  pub bad-field : {m : ℕ} {a : Placed} → Begins s k m p → a ≡ placed p (fieldAs kind (drop p s)) → a ≡ NoNumber → fieldAs kind (getD (fields s) k []) ≡ Bad
+  pub bad-field : {m : ℕ} {a : FieldAt} → Begins s k m p → a ≡ placed p (fieldAs kind (drop p s)) → a ≡ NoNumber → fieldAs kind (getD (fields s) k []) ≡ Bad
   bad-field b e g = sym (at-field b) ∙ placed-bad p (fieldAs kind (drop p s)) (sym e ∙ g)
 
-  pub states : {m v q : ℕ} {a : Placed} → Begins s k m p → a ≡ placed p (fieldAs kind (drop p s)) → a ≡ Number v q → States kind s k v
+  pub states : {m v q : ℕ} {a : FieldAt} → Begins s k m p → a ≡ placed p (fieldAs kind (drop p s)) → a ≡ Number v q → States kind s k v
   states {v = v} {q = q} b e g =
       let r = placed-value p (fieldAs kind (drop p s)) v q (sym e ∙ g) in
       record { width = r .0; says = sym (at-field b) ∙ r .1 .0 }
 
-  pub steps : {m v q : ℕ} {a : Placed} → Begins s k (suc m) p → a ≡ placed p (fieldAs kind (drop p s)) → a ≡ Number v q
+  pub steps : {m v q : ℕ} {a : FieldAt} → Begins s k (suc m) p → a ≡ placed p (fieldAs kind (drop p s)) → a ≡ Number v q
       → States kind s k v × Begins s (suc k) m q
   steps {m} {v} {q} b e g =
       let r = placed-value p (fieldAs kind (drop p s)) v q (sym e ∙ g) in

@@ -18,7 +18,7 @@ use Rattle.table.specs.At.{aPair}
 use Rattle.table.specs.Faults.{Refuses, _then_, unless}
 use Rattle.table.specs.Rules.{usedInRange, totalsFit}
 use Rattle.table.specs.Refusals.{InRange, UsedInRange}
-use Rattle.table.proofs.FirstDecides.{is-rule, from-rule, from-two, by-first, fails, failing}
+use Rattle.table.proofs.Deciding.{is-rule, from-rule, from-two, by-first, fails, failing}
 use Rattle.table.proofs.RuleFacts.{range-is, used-range-is, totals-fit-is}
 use Rattle.table.proofs.RuleLaws.{unless-fine}
 use Rattle.field.specs.declared.Field.{Field}
@@ -64,8 +64,8 @@ module _ (past : Past) (n : ℕ) {k r c ct : List ℕ} (a : first k ≡ k) (b : 
   abbrev useTotals : Bool
   useTotals = totalsFit p (past .sum + value CT) (past .run)
 
-  abbrev pub useFault : Checked
-  useFault = unless useFormed BadField n then unless useRange OutOfRange n then unless (ltb (past .last .0) (value K)) NotRising n then unless useTotals BadTotals n
+  abbrev pub useCheck : Checked
+  useCheck = unless useFormed BadField n then unless useRange OutOfRange n then unless (ltb (past .last .0) (value K)) NotRising n then unless useTotals BadTotals n
 
   abbrev UseCalls : ℕ → ℕ → Type 0
   UseCalls q place = UseLineCalls past k r c ct q × (n ≡ place)
@@ -88,7 +88,7 @@ module _ (past : Past) (n : ℕ) {k r c ct : List ℕ} (a : first k ≡ k) (b : 
   use-formed : {u : UseFigures} → StatesUse k r c ct u → useFormed ≡ true
   use-formed s = rw (count-stated (s .resource) .is, count-stated (s .requests) .is, time-stated (s .longest) .is, time-stated (s .total) .is)
 
-  pub use-calls : (q place : ℕ) → Refuses useFault q place → UseCalls q place
+  pub use-calls : (q place : ℕ) → Refuses useCheck q place → UseCalls q place
   use-calls q place =
       let rising = unless (ltb (past .last .0) (value K)) NotRising n in
       let totals = unless useTotals BadTotals n in
@@ -106,7 +106,7 @@ module _ (past : Past) (n : ℕ) {k r c ct : List ℕ} (a : first k ≡ k) (b : 
       (λ j. from-rule UseCalls useTotals BadTotals n q place
       (λ x. (UseLineCalls.bad-totals s (i .0) (i .1) (ltb-true _ _ (unless-fine _ NotRising n j)) (fails _ (totals-fit-is p (past .sum + value CT) (past .run) .1) x), refl)))))
 
-  pub use-given : {q : ℕ} → UseLineCalls past k r c ct q → Refuses useFault q n
+  pub use-given : {q : ℕ} → UseLineCalls past k r c ct q → Refuses useCheck q n
   use-given (UseLineCalls.bad-field h) = by-first _ _ 3 n (is-rule useFormed BadField n (failing useFormed use-stated (λ s. h _ (s .1))))
   use-given (UseLineCalls.out-of-range {u} s h) =
       rw (count-stated (s .resource) .is, count-stated (s .requests) .is, time-stated (s .longest) .is, time-stated (s .total) .is)

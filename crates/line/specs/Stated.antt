@@ -16,7 +16,7 @@ pub data Without (b : ℕ) : List ℕ → Type 0 where
   no-byte : Without b []
   one-byte : {c : ℕ} {s : List ℕ} → (c ≡ b → ⊥) → Without b s → Without b (c ∷ s)
 
--- a field: not empty, and without a space or an LF
+-- a field: not empty, and without a space; nor with an LF, at which the line would end
 pub record IsField (w : List ℕ) : Type 0 where
   pub some : 1 ≤ length w
   pub no-space : Without 32 w

@@ -51,7 +51,7 @@ enum FieldKind {
 }
 
 // What stands at a place of a line: a number, and the place where the next field begins; or no number.
-enum Placed {
+enum FieldAt {
     Number(u32, usize),
     NoNumber,
 }
@@ -132,17 +132,17 @@ fn field_as(s: &[u8], kind: FieldKind) -> Field
 }
 
 // The number at a place of the line, with the place where the next field begins. No field begins past 64: the fields before it are short.
-fn field_at(line: &[u8], at: usize, kind: FieldKind) -> Placed
+fn field_at(line: &[u8], at: usize, kind: FieldKind) -> FieldAt
     requires { ⌜ at ≤ 64 ⌝ }
     ensures { λ r. ⌜ r ≡ placed at (fieldAs kind (drop at (now (line .entry)))) ⌝ }
 {
     if line.len() <= at {
-        return Placed::NoNumber;
+        return FieldAt::NoNumber;
     }
     let Field::Value(v, width) = field_as(&line[at..], kind) else {
-        return Placed::NoNumber;
+        return FieldAt::NoNumber;
     };
-    Placed::Number(v, at + width + 1)
+    FieldAt::Number(v, at + width + 1)
 }
 
 // 4, of the number of processors.
@@ -204,7 +204,7 @@ fn cpus_line(number: u32, line: &[u8]) -> Said
     requires { ⌜ form (bytes "cpus") 2 (now line) ≡ true ⌝ }
     ensures { λ r. ⌜ r ≡ cpusLine number (countIn (now (line .entry)) 1) ⌝ }
 {
-    let Placed::Number(m, _) = field_at(line, 5, FieldKind::Count) else {
+    let FieldAt::Number(m, _) = field_at(line, 5, FieldKind::Count) else {
         return refuse(Fault::BadField, number);
     };
     cpus_said(number, m)
@@ -215,13 +215,13 @@ fn task_line(past: Past, number: u32, line: &[u8]) -> Said
     requires { ⌜ form (bytes "task") 4 (now line) ≡ true ⌝ }
     ensures { λ r. ⌜ r ≡ taskLine past number (timeIn Down (now (line .entry)) 1) (timeIn Up (now (line .entry)) 2) (timeIn Down (now (line .entry)) 3) ⌝ }
 {
-    let Placed::Number(period, run_at) = field_at(line, 5, FieldKind::TimeDown) else {
+    let FieldAt::Number(period, run_at) = field_at(line, 5, FieldKind::TimeDown) else {
         return refuse(Fault::BadField, number);
     };
-    let Placed::Number(run, deadline_at) = field_at(line, run_at, FieldKind::TimeUp) else {
+    let FieldAt::Number(run, deadline_at) = field_at(line, run_at, FieldKind::TimeUp) else {
         return refuse(Fault::BadField, number);
     };
-    let Placed::Number(deadline, _) = field_at(line, deadline_at, FieldKind::TimeDown) else {
+    let FieldAt::Number(deadline, _) = field_at(line, deadline_at, FieldKind::TimeDown) else {
         return refuse(Fault::BadField, number);
     };
     task_said(past, number, period, run, deadline)
@@ -232,16 +232,16 @@ fn use_line(past: Past, number: u32, line: &[u8]) -> Said
     requires { ⌜ form (bytes "use") 5 (now line) ≡ true ⌝ }
     ensures { λ r. ⌜ r ≡ useLine past number (countIn (now (line .entry)) 1) (countIn (now (line .entry)) 2) (timeIn Up (now (line .entry)) 3) (timeIn Up (now (line .entry)) 4) ⌝ }
 {
-    let Placed::Number(k, requests_at) = field_at(line, 4, FieldKind::Count) else {
+    let FieldAt::Number(k, requests_at) = field_at(line, 4, FieldKind::Count) else {
         return refuse(Fault::BadField, number);
     };
-    let Placed::Number(requests, longest_at) = field_at(line, requests_at, FieldKind::Count) else {
+    let FieldAt::Number(requests, longest_at) = field_at(line, requests_at, FieldKind::Count) else {
         return refuse(Fault::BadField, number);
     };
-    let Placed::Number(longest, total_at) = field_at(line, longest_at, FieldKind::TimeUp) else {
+    let FieldAt::Number(longest, total_at) = field_at(line, longest_at, FieldKind::TimeUp) else {
         return refuse(Fault::BadField, number);
     };
-    let Placed::Number(total, _) = field_at(line, total_at, FieldKind::TimeUp) else {
+    let FieldAt::Number(total, _) = field_at(line, total_at, FieldKind::TimeUp) else {
         return refuse(Fault::BadField, number);
     };
     use_said(

@@ -8,7 +8,6 @@ use native.Mathlib.Omega.{arith}
 use native.Mathlib.Nat.{pow-suc}
 use lib.ListN.{length}
 use lib.Dec.{lit≤}
-use Rattle.basics.proofs.ChoiceLaws.{within-in}
 use Rattle.field.specs.declared.Field.the-variants.{Value}
 use Rattle.field.specs.declared.Rounding.{Rounding}
 use Rattle.field.specs.Number.{number, ends, timeField, countField}
@@ -25,11 +24,11 @@ use Rattle.put.proofs.TimeLaws.{Trimmed, trimmed, time-plain, time-point}
 
 digits-join : {w z : List ℕ} → Digits w → Digits z → Digits (w ++ z)
 digits-join none e = e
-digits-join (one h d) e = one h (digits-join d e)
+digits-join (one l h d) e = one l h (digits-join d e)
 
 digits-made : (k n : ℕ) → Digits (digitsOf k n)
 digits-made zero n = none
-digits-made (suc k) n = digits-join (digits-made k (n / 10)) (one (within-in 48 57 (48 + n % 10) (omega arith) (omega arith)) none)
+digits-made (suc k) n = digits-join (digits-made k (n / 10)) (one (omega arith) (omega arith) none)
 
 digits-number : (k n : ℕ) → n < 10 ^ k → number 0 (digitsOf k n) ≡ n
 digits-number zero n h = omega arith

@@ -22,7 +22,7 @@ use Rattle.line.specs.Stated.{no-byte, one-byte}
 use Rattle.line.proofs.Called.{line-refused}
 use Rattle.listing.specs.Read.{fresh, readEnd, readListing}
 use Rattle.meaning.specs.Figures.{TaskFigures, tableOf}
-use Rattle.meaning.specs.Refusals.{leftBy, linesOf, Before, no-line, some-lines, CallsFor, RefusedAsCalled}
+use Rattle.meaning.specs.Refusals.{leftBy, lineCount, Before, no-line, some-lines, CallsFor, RefusedAsCalled}
 use Rattle.meaning.proofs.SplitLaws.{open-end}
 use Rattle.meaning.proofs.StatesRead.{readText}
 use Rattle.meaning.proofs.ReadStates.{Stops, at-end, at-line}
@@ -73,8 +73,8 @@ end-called : {s : List ℕ} {n : ℕ} {xs : List TaskFigures} → length s ≤ m
 end-called l no-line = inl (2, 1, CallsFor.empty refl)
 end-called {s} l (some-lines {f = f} a g) = go (f .tasks) refl
   where
-    go : (xs : List TaskFigures) → f .tasks ≡ xs → Called s ⊎ ((1 < 2 + linesOf (f .tasks)) × (1 ≤ length (f .tasks)))
-    go [] e = let b : Before s (2 + linesOf (f .tasks)) (f .tasks) = some-lines a g in inl (9, 2, CallsFor.no-task l (rw e at b))
+    go : (xs : List TaskFigures) → f .tasks ≡ xs → Called s ⊎ ((1 < 2 + lineCount (f .tasks)) × (1 ≤ length (f .tasks)))
+    go [] e = let b : Before s (2 + lineCount (f .tasks)) (f .tasks) = some-lines a g in inl (9, 2, CallsFor.no-task l (rw e at b))
     go (x ∷ xs) e = inr (omega arith, rw e (omega arith))
 
 module _ (s : List ℕ) (l : length s ≤ maxListing) where

@@ -23,7 +23,7 @@ use Rattle.line.specs.Stated.{Without, no-byte, one-byte}
 use Rattle.listing.specs.Lines.{endsInLF}
 use Rattle.listing.specs.Read.{fresh, readEnd, readListing}
 use Rattle.meaning.specs.Figures.{Figures, StatesFigures, GoodSoFar, GoodFigures, tableOf}
-use Rattle.meaning.specs.Refusals.{leftBy, linesOf}
+use Rattle.meaning.specs.Refusals.{leftBy, lineCount}
 use Rattle.meaning.specs.Meaning.{Correct, Complete, PassesCheck}
 use Rattle.meaning.proofs.SplitLaws.{open-end}
 use Rattle.meaning.proofs.FigureLaws.{good-table}
@@ -62,10 +62,10 @@ text-right s t q = go (states-up-to s)
     first (at-end w) = absurd (omega (arith, end-is (fresh 0 0) 1 w (sym (stop-end emptyTable (fresh 0 0) 1 w) ∙ q) .1))
     first (at-line l rest r e w d) = absurd (refused-not (stop-line emptyTable (fresh 0 0) 1 rest r w d) (rw e at q))
 
-    later : (before left : List ℕ) (f : Figures) → s ≡ before ++ left → StatesFigures before f → GoodSoFar f → Stops (leftBy (f .tasks)) (2 + linesOf (f .tasks)) left
-        → readText (tableOf f) (leftBy (f .tasks)) (2 + linesOf (f .tasks)) left ≡ accepted t → Right s t
+    later : (before left : List ℕ) (f : Figures) → s ≡ before ++ left → StatesFigures before f → GoodSoFar f → Stops (leftBy (f .tasks)) (2 + lineCount (f .tasks)) left
+        → readText (tableOf f) (leftBy (f .tasks)) (2 + lineCount (f .tasks)) left ≡ accepted t → Right s t
     later before left f e states g (at-end w) q =
-        let r = end-is (leftBy (f .tasks)) (2 + linesOf (f .tasks)) w (sym (stop-end (tableOf f) (leftBy (f .tasks)) (2 + linesOf (f .tasks)) w) ∙ q) in
+        let r = end-is (leftBy (f .tasks)) (2 + lineCount (f .tasks)) w (sym (stop-end (tableOf f) (leftBy (f .tasks)) (2 + lineCount (f .tasks)) w) ∙ q) in
         (f, rw (e, r .0, append-nil before) states, record { so-far = g; tasks-least = r .2 }, r .3)
     later before left f e states g (at-line l rest r d w x) q = absurd (refused-not (stop-line (tableOf f) _ _ rest r w x) (rw d at q))
 
@@ -87,8 +87,8 @@ pub complete : Complete
 unfolding readListing readEnd
 complete s f l a g =
     rw (le-leb (length s) maxListing l)
-    (sym (ap (readText emptyTable (fresh 0 0) 1) (append-nil s)) ∙ figures-read [] a (g .so-far) ∙ stop-end (tableOf f) (leftBy (f .tasks)) (2 + linesOf (f .tasks)) no-byte
-    ∙ rw (lt-ltb 1 (2 + linesOf (f .tasks)) (omega arith), lt-ltb 0 (length (f .tasks)) (g .tasks-least)))
+    (sym (ap (readText emptyTable (fresh 0 0) 1) (append-nil s)) ∙ figures-read [] a (g .so-far) ∙ stop-end (tableOf f) (leftBy (f .tasks)) (2 + lineCount (f .tasks)) no-byte
+    ∙ rw (lt-ltb 1 (2 + lineCount (f .tasks)) (omega arith), lt-ltb 0 (length (f .tasks)) (g .tasks-least)))
 
 -- ---- the check of a table
 

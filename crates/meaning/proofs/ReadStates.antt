@@ -26,7 +26,7 @@ use Rattle.line.proofs.Says.{line-is}
 use Rattle.listing.specs.Lines.{lines}
 use Rattle.listing.specs.Read.{fresh}
 use Rattle.meaning.specs.Figures.{TaskFigures, StatesUses, use-line, StatesTasks, task-line, GoodUses, GoodTasks}
-use Rattle.meaning.specs.Refusals.{sumCT, linesOf}
+use Rattle.meaning.specs.Refusals.{sumCT, lineCount}
 use Rattle.meaning.proofs.SplitLaws.{Start, start-of, no-line-of, line-text}
 use Rattle.meaning.proofs.StatesRead.{pastUses, pastTasks, past-more}
 
@@ -48,7 +48,7 @@ pub record Stating (past : Past) (n : ℕ) (s : List ℕ) : Type 0 where
   pub good-uses : GoodUses (past .run) (past .last .0) (past .sum) uses
   pub good-tasks : GoodTasks tasks
   pub few : past .tasks + length tasks ≤ maxTasks
-  pub stops : Stops (pastTasks (pastUses past uses) tasks) (n + (length uses + linesOf tasks)) left
+  pub stops : Stops (pastTasks (pastUses past uses) tasks) (n + (length uses + lineCount tasks)) left
 
 module _ (past : Past) (n : ℕ) {s : List ℕ} (m : past .tasks ≤ maxTasks) where
   -- nothing is stated, and it stops at once
@@ -77,7 +77,7 @@ module _ (past : Past) (n : ℕ) {s : List ℕ} (m : past .tasks ≤ maxTasks) w
       let run = time-in (others-alone l 1) Up (r .run) in
       let deadline = time-in (others-alone l 2) Down (r .deadline) in
       let y : TaskFigures = record { T = timeOf period T; C = timeOf run C; D = timeOf deadline D; uses = x .uses } in
-      let e : n + 1 + (length (x .uses) + linesOf (x .tasks)) ≡ n + (0 + linesOf (y ∷ x .tasks)) = omega arith in
+      let e : n + 1 + (length (x .uses) + lineCount (x .tasks)) ≡ n + (0 + lineCount (y ∷ x .tasks)) = omega arith in
       record {
         uses = [];
         tasks = y ∷ x .tasks;
@@ -103,7 +103,7 @@ module _ (past : Past) (n : ℕ) {s : List ℕ} (m : past .tasks ≤ maxTasks) w
       let longest = time-in (others-alone l 2) Up (r .longest) in
       let total = time-in (others-alone l 3) Up (r .total) in
       let u : UseFigures = record { K = K .0; N = p .requests; c = timeOf longest (p .longest); CT = timeOf total (p .total) } in
-      let e : n + 1 + (length (x .uses) + linesOf (x .tasks)) ≡ n + (length (u ∷ x .uses) + linesOf (x .tasks)) = omega arith in
+      let e : n + 1 + (length (x .uses) + lineCount (x .tasks)) ≡ n + (length (u ∷ x .uses) + lineCount (x .tasks)) = omega arith in
       let d : past .sum + p .total + sumCT (x .uses) ≡ past .sum + (p .total + sumCT (x .uses)) = omega arith in
       record {
         uses = u ∷ x .uses;

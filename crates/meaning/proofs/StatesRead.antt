@@ -22,7 +22,7 @@ use Rattle.line.proofs.StatedLaws.{count-field, time-field}
 use Rattle.listing.specs.Lines.{lines, endsInLF}
 use Rattle.listing.specs.Read.{fresh, pastAfter, tableAfter, onSaid, readLines}
 use Rattle.meaning.specs.Figures.{TaskFigures, StatesUses, use-line, StatesTasks, task-line, GoodUses, GoodTasks}
-use Rattle.meaning.specs.Refusals.{lastTask, lastK, sumCT, leftOf, leftBy, linesOf}
+use Rattle.meaning.specs.Refusals.{lastTask, lastK, sumCT, leftOf, leftBy, lineCount}
 use Rattle.meaning.proofs.SplitLaws.{line-split, line-shut, begun}
 use Rattle.meaning.proofs.SaysLaws.{task-word, use-word, says-task, says-use}
 use Rattle.meaning.proofs.TableLaws.{storeUses, storeTasks}
@@ -80,14 +80,14 @@ uses-read rest t past n (use-line {k} {n = v} {c} {ct} {rest = z} {u = f} {us} a
 
 pub tasks-read : {s : List ℕ} {xs : List TaskFigures} (rest : List ℕ) (t : Table) (past : Past) (n : ℕ) → StatesTasks s xs → GoodTasks xs
     → 1 < n → past .tasks + length xs ≤ maxTasks
-    → readText t past n (s ++ rest) ≡ readText (storeTasks t (past .tasks) xs) (pastTasks past xs) (n + linesOf xs) rest
+    → readText t past n (s ++ rest) ≡ readText (storeTasks t (past .tasks) xs) (pastTasks past xs) (n + lineCount xs) rest
 unfolding pastAfter
 tasks-read rest t past n StatesTasks.no-task GoodTasks.no-task h few = rw (add-zero n)
 tasks-read rest t past n (task-line {t = w} {c} {d} {uses = s} {rest = z} {x} {xs} a p r) (GoodTasks.one-task g q) h few =
     let said = TaskLine (x .T .held) (x .C .held) (x .D .held) in
     let now = leftOf (past .tasks + 1) x in
     let after = tableAfter t (past .tasks) said in
-    let e : n + suc (length (x .uses) + linesOf xs) ≡ n + 1 + length (x .uses) + linesOf xs = omega arith in
+    let e : n + suc (length (x .uses) + lineCount xs) ≡ n + 1 + length (x .uses) + lineCount xs = omega arith in
     let line = lineOf "task" (w ∷ c ∷ d ∷ []) in
     ap (readText t past n) (append-assoc line (s ++ z) rest ∙ ap (λ (y : List ℕ). line ++ y) (append-assoc s z rest))
     ∙ line-read "task" (s ++ (z ++ rest)) t past n said task-word (task-fields a) (λ l w. says-task past n l w h a (omega arith) (g .times))

@@ -24,7 +24,7 @@ use Rattle.line.proofs.Says.{line-is}
 use Rattle.listing.specs.Lines.{lines, endsInLF}
 use Rattle.listing.specs.Read.{fresh, pastAfter, tableAfter, readEnd, readLines}
 use Rattle.meaning.specs.Figures.{Figures, StatesUses, StatesFigures, cpus-line, GoodUses, GoodSoFar, tableOf}
-use Rattle.meaning.specs.Refusals.{leftBy, linesOf}
+use Rattle.meaning.specs.Refusals.{leftBy, lineCount}
 use Rattle.meaning.proofs.SplitLaws.{Start, start-of, no-line-of, no-lines, line-split, line-text}
 use Rattle.meaning.proofs.SaysLaws.{cpus-word, says-cpus}
 use Rattle.meaning.proofs.TableLaws.{stored}
@@ -37,7 +37,7 @@ use Rattle.meaning.proofs.ReadStates.{Stops, at-end, at-line, Stating, 
 pub data StatesUpTo (s : List ℕ) : Type 0 where
   stops-first : Stops (fresh 0 0) 1 s → StatesUpTo s
   stops-later : (before left : List ℕ) (f : Figures) → s ≡ before ++ left → StatesFigures before f → GoodSoFar f
-      → Stops (leftBy (f .tasks)) (2 + linesOf (f .tasks)) left → StatesUpTo s
+      → Stops (leftBy (f .tasks)) (2 + lineCount (f .tasks)) left → StatesUpTo s
 
 -- a task without run time has no use
 no-uses : {C last sum : ℕ} {s : List ℕ} {us : List UseFigures} → StatesUses s us → GoodUses C last sum us → C ≡ 0 → (s ≡ []) × (us ≡ [])
@@ -54,7 +54,7 @@ cpus-states {l = l} a M f r m =
     (a .text ∙ line-text (a .rest) (form-line "cpus" 1 l (a .clean) f) ∙ rw (m .text, n .0) (sym (append-assoc line (m .second) (m .left))))
     (cpus-line (count-in (others-alone l 0) (r .field)) (m .states-tasks))
     (record { cpus-least = r .least; cpus-most = r .most; tasks-most = omega (arith, m .few); tasks = m .good-tasks })
-    (rw (← past-all (m .tasks)) (rw (n .1, zero-add (linesOf (m .tasks))) at (m .stops)))
+    (rw (← past-all (m .tasks)) (rw (n .1, zero-add (lineCount (m .tasks))) at (m .stops)))
 
 pub states-up-to : (s : List ℕ) → StatesUpTo s
 unfolding pastAfter
@@ -74,7 +74,7 @@ states-up-to s = go (lines s) refl
 
 -- after lines that state figures the reading goes on with what is left
 pub figures-read : {s : List ℕ} {f : Figures} (left : List ℕ) → StatesFigures s f → GoodSoFar f
-    → readText emptyTable (fresh 0 0) 1 (s ++ left) ≡ readText (tableOf f) (leftBy (f .tasks)) (2 + linesOf (f .tasks)) left
+    → readText emptyTable (fresh 0 0) 1 (s ++ left) ≡ readText (tableOf f) (leftBy (f .tasks)) (2 + lineCount (f .tasks)) left
 unfolding pastAfter tableAfter emptyTable
 figures-read left (cpus-line {m} {rest} {f} a r) g =
     ap (readText emptyTable (fresh 0 0) 1) (append-assoc (lineOf "cpus" (m ∷ [])) rest left)

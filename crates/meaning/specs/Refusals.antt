@@ -38,14 +38,14 @@ abbrev pub leftBy : List TaskFigures → Past
 leftBy xs = leftOf (length xs) (lastTask noFigures xs)
 
 -- how many lines state these tasks: one for each, and one for each use
-abbrev pub linesOf : List TaskFigures → ℕ
-linesOf [] = 0
-linesOf (x ∷ xs) = suc (length (x .uses) + linesOf xs)
+abbrev pub lineCount : List TaskFigures → ℕ
+lineCount [] = 0
+lineCount (x ∷ xs) = suc (length (x .uses) + lineCount xs)
 
--- s is what stands before line n: nothing, or `cpus M` and lines that state tasks, nothing being said against them
+-- s is what stands before line n: nothing, or `cpus M` and lines that state these tasks, with nothing said against any
 pub data Before : List ℕ → ℕ → List TaskFigures → Type 0 where
   no-line : Before [] 1 []
-  some-lines : {s : List ℕ} {f : Figures} → StatesFigures s f → GoodSoFar f → Before s (2 + linesOf (f .tasks)) (f .tasks)
+  some-lines : {s : List ℕ} {f : Figures} → StatesFigures s f → GoodSoFar f → Before s (2 + lineCount (f .tasks)) (f .tasks)
 
 -- ---- the number and the place that the paper's table calls for
 
@@ -55,10 +55,10 @@ pub data CallsFor (s : List ℕ) : ℕ → ℕ → Type 0 where
   -- "Then lines in order; .. the first fault deciding .. The place is the line, counted from 1"
   at-line : (before l rest : List ℕ) {n number : ℕ} {tasks : List TaskFigures} → length s ≤ maxListing → s ≡ before ++ (l ++ (10 ∷ rest)) → Without 10 l
       → Before before n tasks → LineCallsFor (leftBy tasks) n l number → CallsFor s number n
-  -- 2, "last line without LF,
+  -- 2, "last line without LF"
   not-ended : (before l : List ℕ) {n : ℕ} {tasks : List TaskFigures} → length s ≤ maxListing → s ≡ before ++ l → Without 10 l → 1 ≤ length l
       → Before before n tasks → CallsFor s 2 n
-  -- or an empty listing", at line 1
+  -- 2, "or an empty listing", at line 1
   empty : s ≡ [] → CallsFor s 2 1
   -- "9 comes at the end", "2 for 9"
   no-task : length s ≤ maxListing → Before s 2 [] → CallsFor s 9 2

@@ -1,6 +1,15 @@
 -- Demand 1 holds.
 -- Assumes nothing.
-use mathlib.Core.Path.{refl, sym}
+use Prim.Native.Nat.{ℕ, _+_}
+use mathlib.Core.Path.{_≡_, refl, sym}
+use mathlib.Core.Bool.{Bool, true, false}
+use mathlib.Core.List.{List}
+use native.Mathlib.Omega.{arith}
+use lib.ListN.{length}
+use lib.Dec.{leb}
+use Rattle.basics.specs.Choice.{pick}
+use Rattle.put.specs.declared.Put.the-variants.{Wrote, Short}
+use Rattle.page.specs.Pages.{fitsPage}
 use base.Logic.{id⊢}
 use Rattle.basics.specs.Over.{joinTo}
 use Rattle.table.proofs.Determined.{number-determined, empty-determined}
@@ -99,6 +108,11 @@ determines =
 
 -- ---- a refusal changes nothing
 
+-- what was not put, by the test that says whether it is
+not-put : (b : Bool) (n : ℕ) (text out : List ℕ) → pick b (Wrote n) Short ≡ Short → pick b text out ≡ out
+not-put true n text out e = let z : _≡_ {A = ℕ} 0 1 = cc in absurd (omega arith)
+not-put false n text out e = refl
+
 keeps : Keeps
 unfolding analysed recordCount joinTo written archiving
 keeps =
@@ -106,6 +120,8 @@ keeps =
       row = λ t allowance row r e. rw e;
       output = λ t out r e. rw e;
       field = λ text out e. short-is text out (sym e) refl .1;
+      place = λ text at out e. not-put (leb (at + length text) (length out)) _ _ out e;
+      page = λ p cells out e. not-put (fitsPage p out) _ _ out e;
       table = listing-empty;
       archiving = λ t out r e. rw e;
       card = archive-empty;

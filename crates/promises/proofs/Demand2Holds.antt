@@ -4,6 +4,7 @@ use Prim.Native.Nat.{ℕ, _≤_, _<_}
 use mathlib.Core.Path.{_≡_, sym, ap, _∙_}
 use mathlib.Core.List.{List}
 use lib.ListN.{length}
+use borrow.Author.Tests.{le-leb}
 use native.Mathlib.Nat.{le-trans}
 use Rattle.basics.specs.Exactly.{_exactly-if_}
 use Rattle.table.specs.declared.Table.{Table}
@@ -29,6 +30,8 @@ use Rattle.meaning.proofs.Meaning.{correct, complete, passes-check}
 use Rattle.meaning.proofs.OneReading.{unambiguous}
 use Rattle.table.proofs.Sameness.{cleared-same}
 use Rattle.meaning.proofs.Back.{text-fits, reads-back, rewrites, same-text}
+use Rattle.writing.specs.Write.{textOf, writeFault, writeAnswer, written}
+use Rattle.promises.specs.Words.{Writes}
 use Rattle.promises.specs.Demand2.{demandIn, deadlineIn, CountIn, RightVerdict, RightRow, Demand2}
 
 module _ (t : Table) (i allowance : ℕ) (fine : tableFault t ≡ Fine) (h : i < t .n) where
@@ -76,6 +79,11 @@ right-row t allowance row e =
       long = row-long t allowance row;
     }
 
+-- the output of a listing, where there is room
+text-written : (t : Table) (out : List ℕ) → tableFault t ≡ Fine → length (textOf t) ≤ length out → Writes (textOf t) out (writeAnswer t (length out)) (written t out)
+unfolding writeFault writeAnswer written
+text-written t out e h = let r = le-leb (length (textOf t)) (length out) h in record { wrote = rw (e, r); output = rw (e, r) }
+
 pub demand2 : Demand2
 demand2 =
     record {
@@ -85,6 +93,7 @@ demand2 =
       complete = complete;
       unambiguous = unambiguous;
       passes-check = passes-check;
+      written-text = text-written;
       text-fits = text-fits;
       reads-back = reads-back;
       cleared-same = cleared-same;

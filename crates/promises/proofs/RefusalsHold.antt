@@ -7,6 +7,7 @@ use mathlib.Core.Logic.{_⊎_, inl, inr}
 use native.Mathlib.Decide.{decLt}
 use native.Mathlib.Omega.{arith}
 use borrow.Author.Tests.{leb-true, le-leb, lt-leb}
+use Rattle.basics.specs.Exactly.{_exactly-if_}
 use lib.ListN.{length}
 use lib.Dec.{leb}
 use Rattle.basics.specs.Choice.{within}
@@ -14,22 +15,29 @@ use Rattle.basics.proofs.ChoiceLaws.{within-low, within-high}
 use Rattle.table.specs.declared.Level.{Level}
 use Rattle.table.specs.declared.Table.{Table}
 use Rattle.table.specs.declared.Fault.the-variants.{UnknownTask, TooShort, NoRounds}
+use Rattle.table.specs.declared.Checked.{Checked}
+use Rattle.table.specs.declared.Checked.the-variants.{Fine, Refused}
+use Rattle.table.specs.declared.Written.the-variants.{Wrote}
 use Rattle.table.specs.Faults.{Refuses, _then_, unless}
+use Rattle.table.specs.Answers.{orWrote}
 use Rattle.table.specs.Rules.{tableFault}
 use Rattle.table.specs.Refusals.{CallsFor}
-use Rattle.table.proofs.FirstDecides.{one-number, is-rule, from-rule, from-two, by-first, fails}
+use Rattle.table.proofs.Deciding.{one-number, is-rule, from-rule, from-two, by-first, fails}
 use Rattle.table.proofs.RuleFacts.{range-is}
 use Rattle.table.proofs.RuleLaws.{unless-fine}
 use Rattle.table.proofs.Acceptance.{fine-accepted, accepted-fine}
 use Rattle.table.proofs.Called.{refused-as-called as table-refused}
 use Rattle.meaning.proofs.ListingRefusals.{refused-as-called as listing-refused}
-use Rattle.writing.specs.Write.{textOf, writeFault}
+use Rattle.writing.specs.Write.{textOf, writeFault, writeAnswer}
 use Rattle.block.specs.Block.{blockSize}
-use Rattle.card.specs.Archive.{archivingFault}
+use Rattle.card.specs.Archive.{archivingFault, archivingAnswer}
 use Rattle.release.proofs.Called.{refused-as-called as archive-refused}
+use Rattle.salvaging.specs.Salvage.{salvageFault, salvageAnswer}
 use Rattle.recovery.proofs.Called.{salvaged-as-called}
-use Rattle.analysis.specs.Answers.{boundFault, analysisFault}
-use Rattle.promises.specs.Refusals.{BoundCallsFor, RowCallsFor, OutputCallsFor, FirstDecides}
+use Rattle.theory.specs.declared.Counted.{Counted}
+use Rattle.analysis.specs.declared.Answer.the-variants.{Known}
+use Rattle.analysis.specs.Answers.{boundFault, boundOf, orAnswer, analysisFault}
+use Rattle.promises.specs.Refusals.{BoundCallsFor, RowCallsFor, OutputCallsFor, NotKnown, NotWrote, FirstDecides}
 
 module _ (t : Table) {k p : ℕ} where
   called : Refuses (tableFault t) k p → CallsFor t k p
@@ -101,8 +109,34 @@ module _ (t : Table) (needed room : ℕ) where
   output-given (OutputCallsFor.own x) = by-first (tableFault t) _ _ _ (given t x)
   output-given (OutputCallsFor.too-short a h) = rw (accepted-fine t a) (is-rule _ TooShort 0 (lt-leb needed room h))
 
+-- ---- from a check to what is answered by it
+
+unknown-is : (c : Checked) (b : Counted) (k p : ℕ) → NotKnown (orAnswer c (Known b)) k p exactly-if Refuses c k p
+unknown-is Fine b k p = (λ x. absurd (apart x), λ x. absurd (not-fine x))
+  where
+    apart : NotKnown (Known b) k p → ⊥
+    apart (r, e, t) = let z : _≡_ {A = ℕ} 0 1 = cc in omega arith
+
+    not-fine : Refuses Fine k p → ⊥
+    not-fine (r, e, t) = let z : _≡_ {A = ℕ} 0 1 = cc in omega arith
+unknown-is (Refused q) b k p = (λ x. let e : q ≡ x .0 = cc (x .1) in (x .0, rw e, x .2), λ x. let e : q ≡ x .0 = cc (x .1) in (x .0, rw e, x .2))
+
+not-written-is : (c : Checked) (n k p : ℕ) → NotWrote (orWrote c n) k p exactly-if Refuses c k p
+not-written-is Fine n k p = (λ x. absurd (apart x), λ x. absurd (not-fine x))
+  where
+    apart : NotWrote (Wrote n) k p → ⊥
+    apart (r, e, t) = let z : _≡_ {A = ℕ} 0 1 = cc in omega arith
+
+    not-fine : Refuses Fine k p → ⊥
+    not-fine (r, e, t) = let z : _≡_ {A = ℕ} 0 1 = cc in omega arith
+not-written-is (Refused q) n k p = (λ x. let e : q ≡ x .0 = cc (x .1) in (x .0, rw e, x .2), λ x. let e : q ≡ x .0 = cc (x .1) in (x .0, rw e, x .2))
+
+-- one after the other
+both : {P Q R : Type 0} → P exactly-if Q → Q exactly-if R → P exactly-if R
+both f g = (λ x. g .0 (f .0 x), λ x. f .1 (g .1 x))
+
 pub first-decides : FirstDecides
-unfolding writeFault archivingFault
+unfolding writeFault writeAnswer archivingFault archivingAnswer boundOf salvageAnswer
 first-decides =
     record {
       numbers = one-number;
@@ -110,8 +144,9 @@ first-decides =
       listing = listing-refused;
       card = archive-refused;
       salvage = salvaged-as-called;
-      bound = λ t i allowance k p. (bound-called t i allowance k p, bound-given t i allowance);
+      salvage-answer = λ s entries room k p. both (not-written-is (salvageFault s entries room) _ k p) (salvaged-as-called .refused s entries room k p);
+      bound = λ t i allowance k p. both (unknown-is (boundFault t i allowance) _ k p) (bound-called t i allowance k p, bound-given t i allowance);
       row = λ t allowance room k p. (row-called t allowance room k p, row-given t allowance room);
-      output = λ t room k p. (output-called t (length (textOf t)) room k p, output-given t (length (textOf t)) room);
-      archiving = λ t room k p. (output-called t (blockSize * t .n) room k p, output-given t (blockSize * t .n) room);
+      output = λ t room k p. both (not-written-is (writeFault t room) _ k p) (output-called t (length (textOf t)) room k p, output-given t (length (textOf t)) room);
+      archiving = λ t room k p. both (not-written-is (archivingFault t room) _ k p) (output-called t (blockSize * t .n) room k p, output-given t (blockSize * t .n) room);
     }

@@ -1,15 +1,22 @@
 -- Request 2/12 of document 02: the archive on the release card. When an archive is refused, and with what, is in demand 1.
 use mathlib.Core.Path.{_≡_}
 use mathlib.Core.List.{List}
-use Prim.Native.Nat.{ℕ}
+use lib.ListN.{length}
+use Prim.Native.Nat.{ℕ, _*_, _≤_}
 use Rattle.table.specs.declared.Table.{Table}
+use Rattle.table.specs.declared.Checked.the-variants.{Fine}
+use Rattle.table.specs.Rules.{tableFault}
 use Rattle.table.specs.Answers.{accepted}
 use Rattle.listing.specs.Read.{readListing}
 use Rattle.writing.specs.Write.{textOf}
-use Rattle.card.specs.Archive.{archiveOf, readArchive}
+use Rattle.block.specs.Block.{blockSize}
+use Rattle.card.specs.Archive.{archiveOf, archivingAnswer, archiving, readArchive}
 use Rattle.release.specs.Undo.{Bytes, ReadsBack, WritesAgain, SameArchive, OneArchive, PassesCheck, Noticed}
+use Rattle.promises.specs.Words.{Writes}
 
 pub record Archives : Type 0 where
+  -- what is written of an accepted table, where there is room, is its archive, and past it the output is as it was
+  pub written-archive : (t : Table) (out : List ℕ) → tableFault t ≡ Fine → blockSize * t .n ≤ length out → Writes (archiveOf t) out (archivingAnswer t (length out)) (archiving t out)
   -- "Writer and reader are both wanted, each undoing the other": the archive of an accepted table is read as that table, with zeros past the nth task
   pub reads-back : ReadsBack
   -- and an accepted archive, its table written again, is the same bytes

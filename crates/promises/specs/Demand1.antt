@@ -26,7 +26,7 @@ use Rattle.table.specs.Empty.{emptyTable}
 use Rattle.table.specs.Faults.{numberOf, Refuses}
 use Rattle.table.specs.Rules.{tableFault}
 use Rattle.put.specs.declared.Put.the-variants.{Short}
-use Rattle.put.specs.Text.{putAnswer}
+use Rattle.put.specs.Text.{putAnswer, putAnswerAt, putAt}
 use Rattle.listing.specs.Read.{readListing}
 use Rattle.writing.specs.Write.{writeFault, writeAnswer, written}
 use Rattle.card.specs.Archive.{archivingFault, archivingAnswer, archiving, readArchive}
@@ -34,6 +34,9 @@ use Rattle.salvaging.specs.Fates.{codeOf, codesOf}
 use Rattle.salvaging.specs.Salvage.{blocksOf, salvageFault, salvageAnswer, listed, salvaged}
 use Rattle.analysis.specs.declared.Record.{Record}
 use Rattle.analysis.specs.Answers.{boundOf, analysisFault, analysed, FillsRow}
+use Rattle.page.specs.declared.Page.{Page}
+use Rattle.page.specs.declared.Cells.{Cells}
+use Rattle.page.specs.Pages.{pageAnswer, pageInto}
 use Rattle.table.proofs.Fault.number.Reads as number
 use Rattle.table.proofs.Table.empty.Reads as empty
 use Rattle.checking.proofs.check.Reads as check
@@ -152,6 +155,8 @@ pub record Keeps : Type 0 where
   pub row : (t : Table) (allowance : ℕ) (row : List Record) (r : Refusal) → analysisFault t allowance (length row) ≡ Refused r → analysed t allowance row ≡ row
   pub output : (t : Table) (out : List ℕ) (r : Refusal) → writeFault t (length out) ≡ Refused r → written t out ≡ out
   pub field : (text out : List ℕ) → putAnswer text out ≡ Short → putInto text out ≡ out
+  pub place : (text : List ℕ) (at : ℕ) (out : List ℕ) → putAnswerAt text at out ≡ Short → putAt text at out ≡ out
+  pub page : (p : Page) (cells : List Cells) (out : List ℕ) → pageAnswer p cells out ≡ Short → pageInto p cells out ≡ out
   -- "a refused reading gives no table"
   pub table : (s : List ℕ) (r : Refusal) → readListing s .answer ≡ Refused r → readListing s .table ≡ emptyTable
   -- and of an archive the same

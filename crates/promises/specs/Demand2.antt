@@ -19,8 +19,10 @@ use Rattle.analysis.specs.declared.Record.{Record}
 use Rattle.theory.specs.Tables.{viewOf}
 use Rattle.analysis.specs.Answers.{boundOf, analysisFault, noRecord, analysed}
 use Rattle.basics.specs.Exactly.{_exactly-if_}
+use Rattle.writing.specs.Write.{textOf, writeAnswer, written}
 use Rattle.meaning.specs.Meaning.{Correct, Complete, Unambiguous, PassesCheck}
 use Rattle.meaning.specs.Back.{TextFits, ReadsBack, Rewrites, SameText}
+use Rattle.promises.specs.Words.{Writes}
 
 -- the demand and the deadline of a task, by its slot, counted from 0
 abbrev pub demandIn : Table → ℕ → ℕ → ℕ
@@ -72,6 +74,8 @@ pub record Demand2 : Type 0 where
   pub complete : Complete
   pub unambiguous : Unambiguous
   pub passes-check : PassesCheck
+  -- what is written of an accepted table, where there is room, is its text; "After success the bytes .. past the last one written are unchanged"
+  pub written-text : (t : Table) (out : List ℕ) → tableFault t ≡ Fine → length (textOf t) ≤ length out → Writes (textOf t) out (writeAnswer t (length out)) (written t out)
   -- a written listing reads back as the same table, and an accepted listing rewritten and read again gives the same table
   pub text-fits : TextFits
   pub reads-back : ReadsBack

@@ -1,23 +1,30 @@
--- Demand 1: a refusal is given, with its number and place, exactly when its rule is the first that fails (`Refuses c k p`: the check c refuses with the number k, at the place p).
+-- Demand 1: a refusal is given, with its number and place, exactly when its rule is the first that fails. It is said of what is answered (`Refuses c k p`: the answer c refuses with the number k, at the place p).
 -- What is called for is said case by case, by bounds and not by the tests that decide: of a table in `table/specs/Refusals`, and here of what is asked after the table's own.
 use Prim.Native.Nat.{ℕ, _*_, _≤_, _<_}
 use mathlib.Core.Path.{_≡_}
 use mathlib.Core.Logic.{_⊎_}
+use mathlib.Core.List.{List}
 use lib.ListN.{length}
 use Rattle.basics.specs.Exactly.{_exactly-if_}
 use Rattle.table.specs.declared.Level.{Level}
 use Rattle.table.specs.declared.Fault.{Fault}
 use Rattle.table.specs.declared.Table.{Table}
-use Rattle.table.specs.Faults.{numberOf, Refuses}
+use Rattle.table.specs.declared.Refusal.{Refusal}
+use Rattle.table.specs.declared.Written.{Written}
+use Rattle.table.specs.declared.Written.the-variants.{NotWritten}
+use Rattle.table.specs.Faults.{numberOf, Told, Refuses}
 use Rattle.table.specs.Accepted.{Accepted}
 use Rattle.table.specs.Refusals.{InRange, CallsFor, RefusedAsCalled}
 use Rattle.meaning.specs.Refusals.{RefusedAsCalled as ListingRefusedAsCalled}
-use Rattle.writing.specs.Write.{textOf, writeFault}
+use Rattle.writing.specs.Write.{textOf, writeAnswer}
 use Rattle.block.specs.Block.{blockSize}
-use Rattle.card.specs.Archive.{archivingFault}
+use Rattle.card.specs.Archive.{archivingAnswer}
 use Rattle.release.specs.Refusals.{RefusedAsCalled as CardRefusedAsCalled}
-use Rattle.recovery.specs.Refusals.{SalvagedAsCalled}
-use Rattle.analysis.specs.Answers.{boundFault, analysisFault}
+use Rattle.salvaging.specs.Salvage.{salvageAnswer}
+use Rattle.recovery.specs.Refusals.{SalvagedAsCalled, CallsFor as SpoiledCallsFor}
+use Rattle.analysis.specs.declared.Answer.{Answer}
+use Rattle.analysis.specs.declared.Answer.the-variants.{Unknown}
+use Rattle.analysis.specs.Answers.{boundOf, analysisFault}
 
 -- ---- after the table's own: "10 and 11 come after these, in that order, with place 0", and 16 "after 10 and before 11"
 
@@ -40,10 +47,16 @@ pub data RowCallsFor (t : Table) (allowance room : ℕ) : ℕ → ℕ → Type 0
 -- of an output with room for so many bytes, where so many are to be written
 pub data OutputCallsFor (t : Table) (needed room : ℕ) : ℕ → ℕ → Type 0 where
   own : {number place : ℕ} → CallsFor t number place → OutputCallsFor t needed room number place
-  -- "the output is shorter than the text needs"
+  -- "the output is shorter than the text needs"; "a writer whose output is shorter than 512 × n bytes gives 11 last"
   too-short : Accepted t → room < needed → OutputCallsFor t needed room 11 0
 
--- ---- refused exactly if it is called for
+-- ---- refused exactly if it is called for: the answer is a refusal with this number, at this place
+
+abbrev pub NotKnown : Answer → ℕ → ℕ → Type 0
+NotKnown a number place = (r : Refusal) × (a ≡ Unknown r) × Told r number place
+
+abbrev pub NotWrote : Written → ℕ → ℕ → Type 0
+NotWrote w number place = (r : Refusal) × (w ≡ NotWritten r) × Told r number place
 
 pub record FirstDecides : Type 0 where
   -- no two refusals have one number
@@ -56,12 +69,14 @@ pub record FirstDecides : Type 0 where
   pub card : CardRefusedAsCalled
   -- a card with bad blocks: 15, 11 and 14, and then the table's own; and what becomes of each block
   pub salvage : SalvagedAsCalled
+  pub salvage-answer : (s : List ℕ) (entries room number place : ℕ)
+      → NotWrote (salvageAnswer s entries room) number place exactly-if SpoiledCallsFor s entries room number place
   -- after the table's own: of a task, of a row, and of an output, be it for a listing or for an archive
   pub bound : (t : Table) (i : Level) (allowance number place : ℕ)
-      → Refuses (boundFault t i allowance) number place exactly-if BoundCallsFor t i allowance number place
+      → NotKnown (boundOf t i allowance) number place exactly-if BoundCallsFor t i allowance number place
   pub row : (t : Table) (allowance room number place : ℕ)
       → Refuses (analysisFault t allowance room) number place exactly-if RowCallsFor t allowance room number place
   pub output : (t : Table) (room number place : ℕ)
-      → Refuses (writeFault t room) number place exactly-if OutputCallsFor t (length (textOf t)) room number place
+      → NotWrote (writeAnswer t room) number place exactly-if OutputCallsFor t (length (textOf t)) room number place
   pub archiving : (t : Table) (room number place : ℕ)
-      → Refuses (archivingFault t room) number place exactly-if OutputCallsFor t (blockSize * t .n) room number place
+      → NotWrote (archivingAnswer t room) number place exactly-if OutputCallsFor t (blockSize * t .n) room number place

@@ -16,7 +16,7 @@ use Rattle.table.specs.Limits.{maxTasks}
 use Rattle.table.specs.Faults.{Refuses, unless}
 use Rattle.table.specs.Rules.{tableFault}
 use Rattle.table.specs.Accepted.{Accepted}
-use Rattle.table.proofs.FirstDecides.{two-decide, is-rule, from-rule, from-two, fails, failing}
+use Rattle.table.proofs.Deciding.{two-decide, is-rule, from-rule, from-two, fails, failing}
 use Rattle.table.proofs.Called.{refused-as-called as table-refused}
 use Rattle.table.proofs.RuleLaws.{unless-fine}
 use Rattle.table.proofs.Acceptance.{fine-accepted, accepted-fine}

@@ -16,7 +16,7 @@ use Rattle.block.specs.Block.{headIn}
 use Rattle.card.specs.Archive.{blockAt, blocksIn}
 use Rattle.release.specs.Refusals.{GoodBlock}
 use Rattle.release.proofs.GoodLaws.{good-is, is-good}
-use Rattle.table.proofs.FirstDecides.{fails, failing}
+use Rattle.table.proofs.Deciding.{fails, failing}
 use Rattle.salvaging.specs.declared.Fate.{Fate}
 use Rattle.salvaging.specs.declared.Fate.the-variants.{Bad, Doubled, Kept, Moved}
 use Rattle.salvaging.specs.Fates.{codeOf, goodAt, numberOn, sameBytes, isDoubled, fateAt, codeAt, codesOf}

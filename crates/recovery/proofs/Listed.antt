@@ -11,7 +11,7 @@ use Rattle.table.specs.declared.Checked.{Checked}
 use Rattle.table.specs.declared.Checked.the-variants.{Fine, Refused}
 use Rattle.table.specs.Faults.{numberOf, Refuses, unless}
 use Rattle.table.specs.Rules.{tableFault}
-use Rattle.table.proofs.FirstDecides.{rule-is, from-two, by-first}
+use Rattle.table.proofs.Deciding.{rule-is, from-two, by-first}
 use Rattle.table.proofs.Called.{refused-as-called as table-refused, number-most}
 use Rattle.card.specs.Archive.{tableIn}
 use Rattle.salvaging.specs.Fates.{codesOf}

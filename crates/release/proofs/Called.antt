@@ -15,7 +15,7 @@ use Rattle.table.specs.Faults.{Refuses, _then_, unless, firstFault}
 use Rattle.table.specs.Empty.{emptyTable}
 use Rattle.table.specs.Answers.{orTable}
 use Rattle.table.specs.Rules.{tableFault}
-use Rattle.table.proofs.FirstDecides.{two-decide, many-decide, rule-is, is-rule, fails, failing}
+use Rattle.table.proofs.Deciding.{two-decide, many-decide, rule-is, is-rule, fails, failing}
 use Rattle.table.proofs.Called.{refused-as-called as table-refused, number-few}
 use Rattle.table.proofs.FirstLaws.{first-fine, each-fine}
 use Rattle.table.proofs.RuleLaws.{unless-fine}

@@ -1,7 +1,7 @@
 -- Laws of the table's rules and of its check.
 --   Chain          one rule after another
 --   FirstLaws      the first fault of many
---   FirstDecides   a refusal is given exactly when its rule is the first that fails
+--   Deciding       of two checks, and of n, the first that refuses decides; what a refusal comes from; no two have one number
 --   RuleFacts      each test of the rules is a fact
 --   RuleLaws       what the rules for a task's times and for a pair say, as bounds
 --   Acceptance     a table is accepted exactly if nothing is said against it
@@ -11,7 +11,7 @@
 --   Determined     two answers are equal
 pub mod Chain
 pub mod FirstLaws
-pub mod FirstDecides
+pub mod Deciding
 pub mod RuleFacts
 pub mod RuleLaws
 pub mod Acceptance

@@ -64,13 +64,13 @@ pub data TaskCallsFor (x : Task) : ℕ → Type 0 where
 -- ---- the number and the place that a table calls for
 
 pub data CallsFor (t : Table) : ℕ → ℕ → Type 0 where
-  -- "A table handed over directly is checked too: 9,
+  -- "A table handed over directly is checked too: 9"
   no-task : t .n < 1 → CallsFor t 9 0
-  -- 8,
+  -- "8"
   too-many : maxTasks < t .n → CallsFor t 8 0
-  -- m (4), each with place 0;
+  -- "m (4), each with place 0"
   bad-cpus : InRange 1 maxTasks (t .n) → (InRange 1 maxCpus (t .cpus) → ⊥) → CallsFor t 4 0
-  -- then task by task .., the place being the task number": task i + 1, where nothing is said against those before it. "Slots past the nth task are not looked at."
+  -- "then task by task .., the place being the task number": task i + 1, where nothing is said against those before it. "Slots past the nth task are not looked at."
   at-task : (i : ℕ) {number : ℕ} → InRange 1 maxTasks (t .n) → InRange 1 maxCpus (t .cpus) → i < t .n → ((j : ℕ) → j < i → GoodTask (taskAt t j))
       → TaskCallsFor (taskAt t i) number → CallsFor t number (i + 1)
 

@@ -1,4 +1,4 @@
--- A refusal is given, with its number and place, exactly when its rule is the first that fails; and no two refusals have one number.
+-- Of two checks, and of n, the first that refuses decides; what a refusal comes from, and what gives it; and no two refusals have one number. Nothing here mentions a rule.
 -- Assumes nothing.
 use Prim.Native.Nat.{ℕ, zero, suc, pred, _<_}
 use mathlib.Core.Path.{_≡_, refl, sym, ap, _∙_}
