@@ -25,7 +25,7 @@ use Rattle.line.specs.Stated.{Without, IsLine}
 use Rattle.line.specs.Refusals.{LineCallsFor, SaysNot, LineRefused}
 use Rattle.line.proofs.WordLaws.{form-line}
 use Rattle.line.proofs.LineForm.{line-fields, line-form, form-other}
-use Rattle.line.proofs.StatedLaws.{others-alone, alone-field}
+use Rattle.line.proofs.StatedLaws.{others-alone, cpus-word, task-word, use-word}
 use Rattle.line.proofs.FieldCalls.{cpus-calls, cpus-given, task-calls, task-given}
 use Rattle.line.proofs.UseCalls.{use-calls, use-given}
 
@@ -65,13 +65,13 @@ module _ (past : Past) (n : ℕ) (s : List ℕ) where
   isUse = form (bytes "use") 5 s && ltb 0 (past .tasks)
 
   cpus-form : n ≡ 1 → {m : List ℕ} → IsLine "cpus" (m ∷ []) s → isCpus ≡ true
-  cpus-form e l = rw (line-form (alone-field {w = bytes "cpus"} refl (omega arith)) l, eq-eqb n 1 e)
+  cpus-form e l = rw (line-form cpus-word l, eq-eqb n 1 e)
 
   task-form : 1 < n → {t c d : List ℕ} → IsLine "task" (t ∷ c ∷ d ∷ []) s → isTask ≡ true
-  task-form h l = rw (line-form (alone-field {w = bytes "task"} refl (omega arith)) l, lt-ltb 1 n h)
+  task-form h l = rw (line-form task-word l, lt-ltb 1 n h)
 
   use-form : 1 ≤ past .tasks → {k r c ct : List ℕ} → IsLine "use" (k ∷ r ∷ c ∷ ct ∷ []) s → isUse ≡ true
-  use-form h l = rw (line-form (alone-field {w = bytes "use"} refl (omega arith)) l, lt-ltb 0 (past .tasks) h)
+  use-form h l = rw (line-form use-word l, lt-ltb 0 (past .tasks) h)
 
   -- ---- what is said is called for
 
@@ -118,16 +118,15 @@ module _ (past : Past) (n : ℕ) (s : List ℕ) where
       let z = failing isUse (and-true (form (bytes "use") 5 s) (ltb 0 (past .tasks))) (λ f. j (ltb-true 0 _ (f .1)) _ _ _ _ (form-line "use" 4 s w (f .0))) in
       rw (x, y, z) (_, refl, record { number = refl; place = refl })
   line-given w (LineCallsFor.of-cpus {m} e l c) =
-      let o = line-fields (alone-field {w = bytes "cpus"} refl (omega arith)) l .1 in
+      let o = line-fields cpus-word l .1 in
       rw (cpus-form e l, o) (given-not _ _ (cpus-given n (rw o at (others-alone s 0)) c))
   line-given w (LineCallsFor.of-task {t} {c} {d} h l x) =
-      let o = line-fields (alone-field {w = bytes "task"} refl (omega arith)) l .1 in
+      let o = line-fields task-word l .1 in
       let f : isCpus ≡ false = rw (ne-eqb n 1 (λ e. omega arith), and-false) in
       rw (f, task-form h l, o) (given-not _ _ (task-given past n (rw o at (others-alone s 0)) (rw o at (others-alone s 1)) (rw o at (others-alone s 2)) x))
   line-given w (LineCallsFor.of-use {k} {r} {c} {ct} h l x) =
-      let a = alone-field {w = bytes "use"} refl (omega arith) in
-      let o = line-fields a l .1 in
-      let u : form (bytes "use") 5 s ≡ true = line-form a l in
+      let o = line-fields use-word l .1 in
+      let u : form (bytes "use") 5 s ≡ true = line-form use-word l in
       let f = form-other (bytes "use") (bytes "cpus") 5 2 s u refl in
       let g = form-other (bytes "use") (bytes "task") 5 4 s u refl in
       rw (f, g, use-form h l, o)

@@ -17,27 +17,27 @@ use Rattle.line.specs.declared.Said.{Said}
 use Rattle.line.specs.declared.Said.the-variants.{Cpus, Task as TaskLine, Use, Not}
 use Rattle.line.specs.Fields.{form}
 use Rattle.line.specs.Line.{countIn, timeIn}
-use Rattle.line.proofs.StatedLaws.{Stated}
+use Rattle.line.proofs.StatedLaws.{IsRead}
 
 -- ---- each kind of line, by its rules
 
 pub record CpusRules (f : Field) (M : ℕ) : Type 0 where
-  pub field : Stated f M
+  pub field : IsRead f M
   pub least : 1 ≤ M
   pub most : M ≤ maxCpus
 
 pub record TaskRules (past : Past) (f g h : Field) (T C D : ℕ) : Type 0 where
-  pub period : Stated f T
-  pub run : Stated g C
-  pub deadline : Stated h D
+  pub period : IsRead f T
+  pub run : IsRead g C
+  pub deadline : IsRead h D
   pub room : past .tasks < maxTasks
   pub times : GoodTimes T C D
 
 pub record UseRules (past : Past) (f g h i : Field) (K : Resource) (p : Pair) : Type 0 where
-  pub resource : Stated f (K .0)
-  pub requests : Stated g (p .requests)
-  pub longest : Stated h (p .longest)
-  pub total : Stated i (p .total)
+  pub resource : IsRead f (K .0)
+  pub requests : IsRead g (p .requests)
+  pub longest : IsRead h (p .longest)
+  pub total : IsRead i (p .total)
   pub least : 1 ≤ K .0
   pub most : K .0 ≤ maxResources
   pub rising : past .last .0 < K .0

@@ -4,7 +4,9 @@ use Prim.Native.Nat.{ℕ, _≤_}
 use mathlib.Core.Path.{_≡_, refl}
 use mathlib.Core.Bool.{Bool, true, false}
 use mathlib.Core.List.{List, [], append-nil}
+use native.Mathlib.Omega.{arith}
 use lib.ListN.{length, getD}
+use Rattle.basics.specs.Text.{bytes}
 use Rattle.field.specs.declared.Field.{Field}
 use Rattle.field.specs.declared.Field.the-variants.{Value, Bad}
 use Rattle.field.specs.declared.Rounding.{Rounding}
@@ -17,11 +19,11 @@ use Rattle.line.specs.Stated.{IsField}
 use Rattle.line.proofs.WordLaws.{field-alone, first-field, others-field}
 
 -- a field that is read as a number
-pub record Stated (f : Field) (v : ℕ) : Type 0 where
+pub record IsRead (f : Field) (v : ℕ) : Type 0 where
   pub width : ℕ
   pub is : f ≡ Value v width
 
-pub formed-states : (f : Field) → formed f ≡ true → Stated f (value f)
+pub formed-states : (f : Field) → formed f ≡ true → IsRead f (value f)
 formed-states (Value v w) e = record { width = w; is = refl }
 formed-states Bad e = let z : _≡_ {A = Bool} true false = cc in record { width = 0; is = cc }
 
@@ -35,10 +37,10 @@ abbrev pub timeOf : {way : Rounding} {w : List ℕ} {v : ℕ} → StatesHeld way
 timeOf t v = record { typed = t .typed; held = v }
 
 module _ {w : List ℕ} {v : ℕ} (a : first w ≡ w) where
-  pub count-in : Stated (countField w) v → StatesCount w v
+  pub count-in : IsRead (countField w) v → StatesCount w v
   count-in e = rw a at (count-states w v (e .width) (e .is))
 
-  pub time-in : (way : Rounding) → Stated (timeField way w) v → StatesHeld way w v
+  pub time-in : (way : Rounding) → IsRead (timeField way w) v → StatesHeld way w v
   time-in way e = rw a at (time-states way w v (e .width) (e .is))
 
 -- ---- from what is stated to what is read
@@ -50,12 +52,23 @@ module _ {w : List ℕ} {v : ℕ} where
   pub count-field : StatesCount w v → IsField w
   count-field c = alone-field (rw append-nil at (no-apart-count w v c [] refl)) (some-count w v c)
 
-  pub count-stated : StatesCount w v → Stated (countField w) v
+  pub count-stated : StatesCount w v → IsRead (countField w) v
   count-stated c = record { width = length (first w); is = states-count w v (rw (rw append-nil at (no-apart-count w v c [] refl)) c) }
 
 module _ {way : Rounding} {w : List ℕ} {x : Time} where
   pub time-field : StatesTime way w x → IsField w
   time-field t = alone-field (rw append-nil at (no-apart-time w (x .typed) (t .spells) [] refl)) (some-time w (x .typed) (t .spells))
 
-  pub time-stated : StatesTime way w x → Stated (timeField way w) (x .held)
+  pub time-stated : StatesTime way w x → IsRead (timeField way w) (x .held)
   time-stated t = record { width = length (first w); is = states-time way w x (rw (rw append-nil at (no-apart-time w (x .typed) (t .spells) [] refl)) t) }
+
+-- ---- the words of lines are fields
+
+pub cpus-word : IsField (bytes "cpus")
+cpus-word = alone-field refl (omega arith)
+
+pub task-word : IsField (bytes "task")
+task-word = alone-field refl (omega arith)
+
+pub use-word : IsField (bytes "use")
+use-word = alone-field refl (omega arith)

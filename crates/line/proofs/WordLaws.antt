@@ -88,13 +88,13 @@ form-filled w k l e = go (filled (fields l)) (eqb-true (fieldCount l) (suc k) (a
     go true q = refl
     go false q = absurd (omega arith)
 
--- of the fields, where none is empty, none but the first is
-filled-rest : (w : List ℕ) (ws : List (List ℕ)) → filled (w ∷ ws) ≡ true → filled ws ≡ true
-filled-rest [] ws e = absurd (true≢false (sym e))
-filled-rest (b ∷ w) ws e = e
+-- where no field is empty, none after the first is
+filled-others : (w : List ℕ) (ws : List (List ℕ)) → filled (w ∷ ws) ≡ true → filled ws ≡ true
+filled-others [] ws e = absurd (true≢false (sym e))
+filled-others (b ∷ w) ws e = e
 
 pub form-line : (word : String) (k : ℕ) (l : List ℕ) → Without 10 l → form (bytes word) (suc k) l ≡ true → IsLine word (fieldsFrom k 0 (others l)) l
 form-line word k l n e =
     let f = form-fields (bytes word) k l e in
     let o = from-is k 0 (others l) (omega arith) in
-    rw (← o) (record { text = line-text n ∙ rw (f .1); fields = fields-are (others l) (others-field l) (filled-rest (first l) (others l) (form-filled (bytes word) k l e)) })
+    rw (← o) (record { text = line-text n ∙ rw (f .1); fields = fields-are (others l) (others-field l) (filled-others (first l) (others l) (form-filled (bytes word) k l e)) })

@@ -33,7 +33,7 @@ use Rattle.meaning.proofs.UpTo.{StatesUpTo, stops-first, stops-later, s
 
 -- ---- correct
 
-pub refused-not : {r : Refusal} {x : Reading} {u : Table} → x .answer ≡ Refused r → x ≡ accepted u → ⊥
+refused-not : {r : Refusal} {x : Reading} {u : Table} → x .answer ≡ Refused r → x ≡ accepted u → ⊥
 refused-not {r} d e =
     let f : Refused r ≡ Fine = sym d ∙ ap (λ (y : Reading). y .answer) e in
     let z : _≡_ {A = ℕ} 0 1 = cc in

@@ -12,12 +12,11 @@ use Rattle.field.proofs.OneNumber.{count-one, time-one}
 use Rattle.line.specs.Fields.{others}
 use Rattle.line.specs.Stated.{IsField, AreFields, none, more, UseFigures}
 use Rattle.line.proofs.LineForm.{line-fields}
-use Rattle.line.proofs.StatedLaws.{count-field}
+use Rattle.line.proofs.StatedLaws.{count-field, cpus-word, task-word, use-word}
 use Rattle.listing.specs.Lines.{lines}
 use Rattle.meaning.specs.Figures.{TaskFigures, Figures, StatesUses, use-line, StatesTasks, task-line, StatesFigures, cpus-line}
 use Rattle.meaning.specs.Meaning.{Unambiguous}
 use Rattle.meaning.proofs.SplitLaws.{line-split, begun}
-use Rattle.meaning.proofs.SaysLaws.{cpus-word, task-word, use-word}
 use Rattle.meaning.proofs.StatesRead.{task-fields, use-fields}
 
 -- ---- a text begins with one line, and that has one row of fields

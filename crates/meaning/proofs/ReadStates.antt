@@ -27,7 +27,7 @@ use Rattle.listing.specs.Lines.{lines}
 use Rattle.listing.specs.Read.{fresh}
 use Rattle.meaning.specs.Figures.{TaskFigures, StatesUses, use-line, StatesTasks, task-line, GoodUses, GoodTasks}
 use Rattle.meaning.specs.Refusals.{sumCT, lineCount}
-use Rattle.meaning.proofs.SplitLaws.{Start, start-of, no-line-of, line-text}
+use Rattle.meaning.proofs.SplitLaws.{Start, start-of, no-line-of, word-text}
 use Rattle.meaning.proofs.StatesRead.{pastUses, pastTasks, past-more}
 
 -- where the reading stops: no line that ends is left, or the next one is refused
@@ -85,7 +85,7 @@ module _ (past : Past) (n : ℕ) {s : List ℕ} (m : past .tasks ≤ maxTasks) w
         second = line ++ (x .first ++ x .second);
         left = x .left;
         text =
-            a .text ∙ line-text (a .rest) (form-line "task" 3 l (a .clean) f)
+            a .text ∙ word-text (a .rest) (form-line "task" 3 l (a .clean) f)
             ∙ rw (x .text, append-assoc line (x .first ++ x .second) (x .left), append-assoc (x .first) (x .second) (x .left));
         states-uses = StatesUses.no-use;
         states-tasks = task-line {x = y} (record { period = period .states; run = run .states; deadline = deadline .states }) (x .states-uses) (x .states-tasks);
@@ -111,7 +111,7 @@ module _ (past : Past) (n : ℕ) {s : List ℕ} (m : past .tasks ≤ maxTasks) w
         first = line ++ x .first;
         second = x .second;
         left = x .left;
-        text = a .text ∙ line-text (a .rest) (form-line "use" 4 l (a .clean) f) ∙ rw (x .text, append-assoc line (x .first) (x .second ++ x .left));
+        text = a .text ∙ word-text (a .rest) (form-line "use" 4 l (a .clean) f) ∙ rw (x .text, append-assoc line (x .first) (x .second ++ x .left));
         states-uses =
             use-line {u = u} (record { resource = count-in (others-alone l 0) (r .resource); requests = count-in (others-alone l 1) (r .requests); longest = longest .states; total = total .states })
             (x .states-uses);

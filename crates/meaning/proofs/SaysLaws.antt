@@ -19,9 +19,9 @@ use Rattle.line.specs.declared.Past.{Past}
 use Rattle.line.specs.declared.Said.the-variants.{Cpus, Task as TaskLine, Use}
 use Rattle.line.specs.Fields.{form}
 use Rattle.line.specs.Line.{cpusLine, taskLine, useLine, lineSays}
-use Rattle.line.specs.Stated.{IsField, IsLine, StatesTask, UseFigures, StatesUse, heldPair}
+use Rattle.line.specs.Stated.{IsLine, StatesTask, UseFigures, StatesUse, heldPair}
 use Rattle.line.proofs.LineForm.{line-fields, line-form, form-other}
-use Rattle.line.proofs.StatedLaws.{alone-field, count-stated, time-stated}
+use Rattle.line.proofs.StatedLaws.{cpus-word, task-word, use-word, count-stated, time-stated}
 use Rattle.line.proofs.LineRules.{CpusRules, TaskRules, UseRules}
 
 cpus-said : {f : Field} {M : ℕ} (n : ℕ) → CpusRules f M → cpusLine n f ≡ Cpus M
@@ -46,15 +46,6 @@ use-said {past} {K = K} {p} n r =
       lt-ltb (past .last .0) (K .0) (r .rising),
       used-totals p (past .sum + p .total) (past .run) (r .good) (r .fits),
     )
-
-pub cpus-word : IsField (bytes "cpus")
-cpus-word = alone-field refl (omega arith)
-
-pub task-word : IsField (bytes "task")
-task-word = alone-field refl (omega arith)
-
-pub use-word : IsField (bytes "use")
-use-word = alone-field refl (omega arith)
 
 module _ (past : Past) (n : ℕ) (s : List ℕ) where
   pub says-cpus : {m : List ℕ} {M : ℕ} → IsLine "cpus" (m ∷ []) s → n ≡ 1 → StatesCount m M → 1 ≤ M → M ≤ maxCpus → lineSays past n s ≡ Cpus M

@@ -107,5 +107,5 @@ begun word {ws} rest a r =
     }
 
 -- and the other way round
-pub line-text : {word : String} {ws : List (List ℕ)} {l : List ℕ} (rest : List ℕ) → IsLine word ws l → l ++ (10 ∷ rest) ≡ lineOf word ws ++ rest
-line-text {l = l} rest i = sym (append-assoc l (10 ∷ []) rest) ∙ ap (λ (x : List ℕ). x ++ rest) (i .text)
+pub word-text : {word : String} {ws : List (List ℕ)} {l : List ℕ} (rest : List ℕ) → IsLine word ws l → l ++ (10 ∷ rest) ≡ lineOf word ws ++ rest
+word-text {l = l} rest i = sym (append-assoc l (10 ∷ []) rest) ∙ ap (λ (x : List ℕ). x ++ rest) (i .text)

@@ -18,13 +18,13 @@ use Rattle.line.specs.declared.Said.{Said}
 use Rattle.line.specs.declared.Said.the-variants.{Task as TaskLine, Use}
 use Rattle.line.specs.Line.{lineSays}
 use Rattle.line.specs.Stated.{IsField, AreFields, none, more, IsLine, StatesTask, StatesUse, UseFigures, heldPair}
-use Rattle.line.proofs.StatedLaws.{count-field, time-field}
+use Rattle.line.proofs.StatedLaws.{count-field, time-field, task-word, use-word}
 use Rattle.listing.specs.Lines.{lines, endsInLF}
 use Rattle.listing.specs.Read.{fresh, pastAfter, tableAfter, onSaid, readLines}
 use Rattle.meaning.specs.Figures.{TaskFigures, StatesUses, use-line, StatesTasks, task-line, GoodUses, GoodTasks}
 use Rattle.meaning.specs.Refusals.{lastTask, lastK, sumCT, leftOf, leftBy, lineCount}
 use Rattle.meaning.proofs.SplitLaws.{line-split, line-shut, begun}
-use Rattle.meaning.proofs.SaysLaws.{task-word, use-word, says-task, says-use}
+use Rattle.meaning.proofs.SaysLaws.{says-task, says-use}
 use Rattle.meaning.proofs.TableLaws.{storeUses, storeTasks}
 
 abbrev pub readText : Table → Past → ℕ → List ℕ → Reading
@@ -64,7 +64,7 @@ pub use-fields : {k n c ct : List ℕ} {u : UseFigures} → StatesUse k n c ct u
 use-fields s = more (count-field (s .resource)) (more (count-field (s .requests)) (more (time-field (s .longest)) (more (time-field (s .total)) none)))
 
 -- the uses of the last task, and then what follows them
-pub uses-read : {s : List ℕ} {us : List UseFigures} (rest : List ℕ) (t : Table) (past : Past) (n : ℕ)
+uses-read : {s : List ℕ} {us : List UseFigures} (rest : List ℕ) (t : Table) (past : Past) (n : ℕ)
     → StatesUses s us → GoodUses (past .run) (past .last .0) (past .sum) us → 0 < past .tasks
     → readText t past n (s ++ rest) ≡ readText (storeUses t (past .tasks) us) (pastUses past us) (n + length us) rest
 unfolding pastAfter

@@ -18,15 +18,15 @@ use Rattle.line.specs.Fields.{others, form}
 use Rattle.line.specs.Line.{countIn, lineSays}
 use Rattle.line.specs.Stated.{Without, none, more, UseFigures}
 use Rattle.line.proofs.WordLaws.{fieldsFrom, form-line}
-use Rattle.line.proofs.StatedLaws.{others-alone, count-in, count-field}
+use Rattle.line.proofs.StatedLaws.{others-alone, count-in, count-field, cpus-word}
 use Rattle.line.proofs.LineRules.{CpusRules, Line, is-cpus, is-task, is-use, is-not}
 use Rattle.line.proofs.Says.{line-is}
 use Rattle.listing.specs.Lines.{lines, endsInLF}
 use Rattle.listing.specs.Read.{fresh, pastAfter, tableAfter, readEnd, readLines}
 use Rattle.meaning.specs.Figures.{Figures, StatesUses, StatesFigures, cpus-line, GoodUses, GoodSoFar, tableOf}
 use Rattle.meaning.specs.Refusals.{leftBy, lineCount}
-use Rattle.meaning.proofs.SplitLaws.{Start, start-of, no-line-of, no-lines, line-split, line-text}
-use Rattle.meaning.proofs.SaysLaws.{cpus-word, says-cpus}
+use Rattle.meaning.proofs.SplitLaws.{Start, start-of, no-line-of, no-lines, line-split, word-text}
+use Rattle.meaning.proofs.SaysLaws.{says-cpus}
 use Rattle.meaning.proofs.TableLaws.{stored}
 use Rattle.meaning.proofs.StatesRead.{readText, line-read, tasks-read, past-all}
 use Rattle.meaning.proofs.ReadStates.{Stops, at-end, at-line, Stating, states-to}
@@ -51,7 +51,7 @@ cpus-states {l = l} a M f r m =
     let line = lineOf "cpus" (fieldsFrom 1 0 (others l)) in
     let g : Figures = record { M = M; tasks = m .tasks } in
     stops-later (line ++ m .second) (m .left) g
-    (a .text ∙ line-text (a .rest) (form-line "cpus" 1 l (a .clean) f) ∙ rw (m .text, n .0) (sym (append-assoc line (m .second) (m .left))))
+    (a .text ∙ word-text (a .rest) (form-line "cpus" 1 l (a .clean) f) ∙ rw (m .text, n .0) (sym (append-assoc line (m .second) (m .left))))
     (cpus-line (count-in (others-alone l 0) (r .field)) (m .states-tasks))
     (record { cpus-least = r .least; cpus-most = r .most; tasks-most = omega (arith, m .few); tasks = m .good-tasks })
     (rw (← past-all (m .tasks)) (rw (n .1, zero-add (lineCount (m .tasks))) at (m .stops)))

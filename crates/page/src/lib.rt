@@ -16,7 +16,7 @@ use theory::Verdict;
 
 mod row;
 
-// No page is longer: a header of 29 bytes, and for each task a row of at most 40.
+// No page is longer: a header of 29 bytes, and for each task a row of at most 40, with three numbers of up to ten digits and a word of up to six.
 pub const MAX_PAGE: usize = 29 + Table::MAX_TASKS * 40;
 
 // The word for a verdict.
@@ -32,10 +32,10 @@ pub enum Bound {
     Dash,
 }
 
-// What stands for a verdict in a row. The program says what that is, which takes the verdict apart.
+// What stands for a verdict in a row. The program, which takes the verdict apart, says what that is.
 pub struct Cells(pub Word, pub Bound);
 
-// What a page is made from: why there is none, or a record for each of n tasks.
+// What a page is made from: the refusal that it tells, or a record for each of n tasks.
 pub struct Page {
     pub answer: Checked,
     pub n: usize,
@@ -87,7 +87,8 @@ fn put_rows(out: &mut [u8], p: Page, cells: [Cells; Table::MAX_TASKS]) -> usize
     at
 }
 
-// A page, at the start of out: the refusal's line, or the header and the rows. Where there is no room for the longest page, or no record for each row, nothing is put.
+// A page, at the start of out: the refusal's line, or the header and the rows. The room is tested once, for the longest page; without it, or without a record for each row, it is
+// `Short`, and nothing is put.
 pub fn put_page(out: &mut [u8], p: Page, cells: [Cells; Table::MAX_TASKS]) -> Put
     ensures { λ q. ⌜ (q ≡ pageAnswer p cells (now (out .entry))) × (now (out .exit) ≡ pageInto p cells (now (out .entry))) ⌝ }
 {

@@ -1,4 +1,5 @@
---   RefusalsHold, Demand1Holds, Demand2Holds, NoEasierHolds, NotEmptyHolds, DecimalsHold, ArchivesHold, PointsHold, WindowHolds, SalvagesHold, RoundsHold, EachReadHolds, ReadsHold, RespondsHold   each promise, by citing the crate or the file that did the work
+--   RefusalsHold                                                                                                                                                        a refusal is given exactly when it is called for
+--   Demand1Holds, Demand2Holds, NoEasierHolds, NotEmptyHolds, DecimalsHold, ArchivesHold, PointsHold, WindowHolds, SalvagesHold, RoundsHold, EachReadHolds, ReadsHold, RespondsHold   each promise, by citing the crate or the file that did the work
 --   NoEasierLaws                                                                                                                                                        the one result, over what the analysis reads of two tables
 --   ReadsLaws, SameReadLaws, OnlyRunLaws                                                                                                                                what a verdict reads: of which tasks; the demand is the same where two tables agree on it, and where one run time alone differs
 --   ComparedByTest, AgreeByTest, UnchangedByTest                                                                                                                        two tables compared, and held to what a verdict reads, each by one test that computes

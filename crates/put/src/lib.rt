@@ -6,7 +6,7 @@ ghost use lib.ListN.{length, drop};
 ghost use Rattle.basics.specs.Text.{putInto};
 ghost use Rattle.put.specs.Text.{width, digitsOf, trim, pointed, countText, timeText, putAnswer, putAnswerAt, putAt, putLength};
 
-// How many bytes were written, or that the output is too short and was left as it was.
+// How many bytes were written, or that nothing was, since the output is too short, and it is as it was.
 pub enum Put {
     Wrote(usize),
     Short,
@@ -196,7 +196,7 @@ pub fn put_time(out: &mut [u8], us: u32) -> Put
     Put::Wrote(n)
 }
 
-// A space and a count, at a place of out. The place may be any number: the tests add nothing to it.
+// A space and a count, at a place of out, which may be any number: nothing is added to it before it is known to lie in the output, so that no sum is too large.
 pub fn spaced_count(out: &mut [u8], at: usize, n: u32) -> Put
     ensures { λ r. ⌜ (r ≡ putAnswerAt (32 ∷ countText n) at (now (out .entry))) × (now (out .exit) ≡ putAt (32 ∷ countText n) at (now (out .entry))) ⌝ }
 {

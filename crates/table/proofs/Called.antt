@@ -17,7 +17,7 @@ use Rattle.table.specs.At.{taskAt, pairOf, totalOf}
 use Rattle.table.specs.Faults.{Refuses, unless, firstFault}
 use Rattle.table.specs.Rules.{timesInRange, timesInOrder, timesFault, pairInRange, totalsFit, pairFault, pairFaultOf, pairsFault, taskFault, taskFaultAt, tasksFault, tableFault}
 use Rattle.table.specs.Accepted.{GoodTo}
-use Rattle.table.specs.Refusals.{InRange, TimesInRange, TaskCallsFor, out-of-range, bad-times, pair-out-of-range, bad-totals, CallsFor, no-task, too-many, bad-cpus, at-task, RefusedAsCalled}
+use Rattle.table.specs.Refusals.{InRange, TaskCallsFor, out-of-range, bad-times, pair-out-of-range, bad-totals, CallsFor, no-task, too-many, bad-cpus, at-task, RefusedAsCalled}
 use Rattle.table.proofs.Deciding.{many-decide, is-rule, from-rule, from-two, by-first, fails, failing}
 use Rattle.table.proofs.RuleFacts.{range-is, times-range-is, times-order-is, pair-range-is, totals-fit-is}
 use Rattle.table.proofs.RuleLaws.{unless-fine, times-fine}
@@ -28,9 +28,6 @@ use Rattle.table.proofs.Acceptance.{good-to, to-fine, task-good, task-f
 module _ (place : ℕ) (x : Task) where
   abbrev times : Checked
   times = timesFault place (x .period) (x .run) (x .deadline)
-
-  abbrev ranged : Type 0
-  ranged = TimesInRange (x .period) (x .run) (x .deadline)
 
   -- what is called for, at the task's place
   abbrev Calls : ℕ → ℕ → Type 0

@@ -48,7 +48,7 @@ number-back NoRounds = refl
 pub one-number : (a b : Fault) → numberOf a ≡ numberOf b → a ≡ b
 one-number a b e = sym (number-back a) ∙ ap faultOf e ∙ number-back b
 
--- ---- one rule, two rules, and the rules of n things
+-- ---- two checks, and n of them
 
 -- a check that is fine refuses nothing
 not-refused : {A : Type 0} {c : Checked} {k p : ℕ} → c ≡ Fine → Refuses c k p → A

@@ -24,14 +24,14 @@ unless-fine false fault place e = cc
 
 -- ---- a task's times: 4 and 5 together are its bounds
 
-pub good-times : {T C D : ℕ} → TimesInRange T C D → TimesInOrder T C D → GoodTimes T C D
+good-times : {T C D : ℕ} → TimesInRange T C D → TimesInOrder T C D → GoodTimes T C D
 good-times r o =
     record { run-least = r .run .0; run-deadline = o .run-deadline; deadline-period = o .deadline-period; period-most = r .period .1 }
 
-pub times-range : {T C D : ℕ} → GoodTimes T C D → TimesInRange T C D
+times-range : {T C D : ℕ} → GoodTimes T C D → TimesInRange T C D
 times-range g = record { period = (omega arith, omega arith); run = (omega arith, omega arith); deadline = (omega arith, omega arith) }
 
-pub times-order : {T C D : ℕ} → GoodTimes T C D → TimesInOrder T C D
+times-order : {T C D : ℕ} → GoodTimes T C D → TimesInOrder T C D
 times-order g = record { run-deadline = g .run-deadline; deadline-period = g .deadline-period }
 
 pub times-good : (place T C D : ℕ) → timesFault place T C D ≡ Fine → GoodTimes T C D
@@ -46,7 +46,7 @@ times-fine place T C D g = rw (times-range-is T C D .1 (times-range g), times-or
 
 -- ---- one pair: 4 and 7 together are its bounds
 
-pub good-used : (p : Pair) {sum C : ℕ} → UsedInRange p → TotalsFit p sum C → GoodPair p
+good-used : (p : Pair) {sum C : ℕ} → UsedInRange p → TotalsFit p sum C → GoodPair p
 good-used p r u =
     record {
       requests-least = r .requests .0;
@@ -57,7 +57,7 @@ good-used p r u =
       total-most = r .total .1;
     }
 
-pub good-pair : (p : Pair) {sum C : ℕ} → PairInRange p → TotalsFit p sum C → (p ≡ unusedPair) ⊎ GoodPair p
+good-pair : (p : Pair) {sum C : ℕ} → PairInRange p → TotalsFit p sum C → (p ≡ unusedPair) ⊎ GoodPair p
 good-pair p (inl e) u = inl e
 good-pair p (inr r) u = inr (good-used p r u)
 

@@ -9,11 +9,12 @@ use table::Written;
 
 mod bytes;
 
-// The longest archive, and one byte past it, to know that an archive is too long.
-const SPACE: usize = Table::MAX_TASKS * SIZE + 1;
+// The longest archive.
+const MAX_ARCHIVE: usize = Table::MAX_TASKS * SIZE;
 
 fn main() {
-    let mut space = [0u8; SPACE];
+    // one byte past it, to know that an archive is too long
+    let mut space = [0u8; MAX_ARCHIVE + 1];
     let Input::Got(n) = console::read_input(&mut space) else {
         io::write_all(STDERR_FILENO, b"unarchive: the input could not be read\n");
         return;

@@ -54,7 +54,7 @@ bounded c =
     let f₁ = filled-at f₀ (32 ∷ wordText (a .cells .0)) (w .spaced-word .kept .0) (w .spaced-word .ensures) in
     filled-at f₁ (32 ∷ boundText (a .cells .1)) (c .spaced-bound .kept .0) (c .spaced-bound .ensures)
 
--- there is room for these
+-- there is room for the rounds and the LF
 rest : (c : tie.After-spaced-bound) → let a = begin (numbered c) .args in c .spaced-bound .result + 1 + length (countText (a .x .rounds)) < length (a .out .now)
 rest c =
     let l = numbered c in
