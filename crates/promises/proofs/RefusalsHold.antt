@@ -1,7 +1,7 @@
 -- A refusal is given exactly when it is called for (specs/Refusals.antt).
 -- Assumes nothing.
 use Prim.Native.Nat.{ℕ, _*_, _<_}
-use mathlib.Core.Path.{_≡_}
+use mathlib.Core.Path.{_≡_, refl, sym, ap, _∙_}
 use mathlib.Core.Bool.{false}
 use mathlib.Core.Logic.{_⊎_, inl, inr}
 use native.Mathlib.Decide.{decLt}
@@ -17,8 +17,9 @@ use Rattle.table.specs.declared.Table.{Table}
 use Rattle.table.specs.declared.Fault.the-variants.{UnknownTask, TooShort, NoRounds}
 use Rattle.table.specs.declared.Checked.{Checked}
 use Rattle.table.specs.declared.Checked.the-variants.{Fine, Refused}
-use Rattle.table.specs.declared.Written.the-variants.{Wrote}
-use Rattle.table.specs.Faults.{Refuses, _then_, unless}
+use Rattle.table.specs.declared.Written.the-variants.{NotWritten}
+use Rattle.table.specs.declared.Refusal.{Refusal}
+use Rattle.table.specs.Faults.{Told, Refuses, _then_, unless}
 use Rattle.table.specs.Answers.{orWrote}
 use Rattle.table.specs.Rules.{tableFault}
 use Rattle.table.specs.Refusals.{CallsFor}
@@ -35,7 +36,7 @@ use Rattle.release.proofs.Called.{refused-as-called as archive-refused}
 use Rattle.salvaging.specs.Salvage.{salvageFault, salvageAnswer}
 use Rattle.recovery.proofs.Called.{salvaged-as-called}
 use Rattle.theory.specs.declared.Counted.{Counted}
-use Rattle.analysis.specs.declared.Answer.the-variants.{Known}
+use Rattle.analysis.specs.declared.Answer.the-variants.{Known, Unknown}
 use Rattle.analysis.specs.Answers.{boundFault, boundOf, orAnswer, analysisFault}
 use Rattle.promises.specs.Refusals.{BoundCallsFor, RowCallsFor, OutputCallsFor, NotKnown, NotWrote, FirstDecides}
 
@@ -111,25 +112,18 @@ module _ (t : Table) (needed room : ℕ) where
 
 -- ---- from a check to what is answered by it
 
-unknown-is : (c : Checked) (b : Counted) (k p : ℕ) → NotKnown (orAnswer c (Known b)) k p exactly-if Refuses c k p
-unknown-is Fine b k p = (λ x. absurd (apart x), λ x. absurd (not-fine x))
-  where
-    apart : NotKnown (Known b) k p → ⊥
-    apart (r, e, t) = let z : _≡_ {A = ℕ} 0 1 = cc in omega arith
+-- of an answer that is made of a check, and is `says r` where the check refuses with r and only there
+answer-is : {A : Type 0} (says : Refusal → A) (made : Checked → A) → ((q r : Refusal) → says q ≡ says r → q ≡ r) → ((r : Refusal) → made (Refused r) ≡ says r)
+    → ((r : Refusal) → made Fine ≡ says r → ⊥) → (c : Checked) (k p : ℕ) → ((r : Refusal) × (made c ≡ says r) × Told r k p) exactly-if Refuses c k p
+answer-is says made same is never Fine k p = (λ x. absurd (never (x .0) (x .1)), λ x. let z : _≡_ {A = ℕ} 0 1 = cc (x .1) in absurd (omega arith))
+answer-is says made same is never (Refused q) k p =
+    (λ x. (x .0, ap Refused (same q (x .0) (sym (is q) ∙ x .1)), x .2), λ x. let e : q ≡ x .0 = cc (x .1) in (x .0, is q ∙ ap says e, x .2))
 
-    not-fine : Refuses Fine k p → ⊥
-    not-fine (r, e, t) = let z : _≡_ {A = ℕ} 0 1 = cc in omega arith
-unknown-is (Refused q) b k p = (λ x. let e : q ≡ x .0 = cc (x .1) in (x .0, rw e, x .2), λ x. let e : q ≡ x .0 = cc (x .1) in (x .0, rw e, x .2))
+unknown-is : (b : Counted) (c : Checked) (k p : ℕ) → NotKnown (orAnswer c (Known b)) k p exactly-if Refuses c k p
+unknown-is b = answer-is Unknown (λ c. orAnswer c (Known b)) (λ q r e. cc) (λ r. refl) (λ r e. let z : _≡_ {A = ℕ} 0 1 = cc in omega arith)
 
-not-written-is : (c : Checked) (n k p : ℕ) → NotWrote (orWrote c n) k p exactly-if Refuses c k p
-not-written-is Fine n k p = (λ x. absurd (apart x), λ x. absurd (not-fine x))
-  where
-    apart : NotWrote (Wrote n) k p → ⊥
-    apart (r, e, t) = let z : _≡_ {A = ℕ} 0 1 = cc in omega arith
-
-    not-fine : Refuses Fine k p → ⊥
-    not-fine (r, e, t) = let z : _≡_ {A = ℕ} 0 1 = cc in omega arith
-not-written-is (Refused q) n k p = (λ x. let e : q ≡ x .0 = cc (x .1) in (x .0, rw e, x .2), λ x. let e : q ≡ x .0 = cc (x .1) in (x .0, rw e, x .2))
+not-written-is : (n : ℕ) (c : Checked) (k p : ℕ) → NotWrote (orWrote c n) k p exactly-if Refuses c k p
+not-written-is n = answer-is NotWritten (λ c. orWrote c n) (λ q r e. cc) (λ r. refl) (λ r e. let z : _≡_ {A = ℕ} 0 1 = cc in omega arith)
 
 -- one after the other
 both : {P Q R : Type 0} → P exactly-if Q → Q exactly-if R → P exactly-if R
@@ -144,9 +138,9 @@ first-decides =
       listing = listing-refused;
       card = archive-refused;
       salvage = salvaged-as-called;
-      salvage-answer = λ s entries room k p. both (not-written-is (salvageFault s entries room) _ k p) (salvaged-as-called .refused s entries room k p);
-      bound = λ t i allowance k p. both (unknown-is (boundFault t i allowance) _ k p) (bound-called t i allowance k p, bound-given t i allowance);
+      salvage-answer = λ s entries room k p. both (not-written-is _ (salvageFault s entries room) k p) (salvaged-as-called .refused s entries room k p);
+      bound = λ t i allowance k p. both (unknown-is _ (boundFault t i allowance) k p) (bound-called t i allowance k p, bound-given t i allowance);
       row = λ t allowance room k p. (row-called t allowance room k p, row-given t allowance room);
-      output = λ t room k p. both (not-written-is (writeFault t room) _ k p) (output-called t (length (textOf t)) room k p, output-given t (length (textOf t)) room);
-      archiving = λ t room k p. both (not-written-is (archivingFault t room) _ k p) (output-called t (blockSize * t .n) room k p, output-given t (blockSize * t .n) room);
+      output = λ t room k p. both (not-written-is _ (writeFault t room) k p) (output-called t (length (textOf t)) room k p, output-given t (length (textOf t)) room);
+      archiving = λ t room k p. both (not-written-is _ (archivingFault t room) k p) (output-called t (blockSize * t .n) room k p, output-given t (blockSize * t .n) room);
     }

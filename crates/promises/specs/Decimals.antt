@@ -1,5 +1,5 @@
 -- Request 1/12 of document 02: times with up to six decimals. C, c and CT are rounded up to the microsecond, T and D down.
--- That "4, 5 and 7 are decided on the rounded values" is in `Correct` and `Complete` of demand 2, whose rules are those of what the table holds, and in `RefusedAsCalled` of demand 1.
+-- That "4, 5 and 7 are decided on the rounded values" is in `Correct` and `Complete` of demand 2, whose rules are those of what the table holds, and, of refusals, in `listing` of `FirstDecides` of demand 1.
 -- What is said here is said of each figure and not of verdicts: docs/DECISIONS.md has a listing whose second task would miss by the figures as typed and meets by the rounded ones.
 use Prim.Native.Nat.{ℕ, _≤_, _<_}
 use mathlib.Core.Path.{_≡_}
