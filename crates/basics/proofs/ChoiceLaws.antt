@@ -2,7 +2,7 @@
 -- Assumes nothing.
 use Prim.Native.Nat.{ℕ, _≤_, _<_}
 use mathlib.Core.Path.{_≡_, refl, sym, _∙_}
-use mathlib.Core.Bool.{Bool, true, false, not, _&&_, and-false}
+use mathlib.Core.Bool.{Bool, true, false, not, _&&_, _||_, and-false}
 use native.Mathlib.Nat.{le-refl, not-suc-le-zero}
 use native.Mathlib.Omega.{arith}
 use borrow.Author.Tests.{leb-true, le-leb, lt-leb, not-true, not-false}
@@ -19,6 +19,11 @@ passes {r} e h = sym e ∙ not-false r h
 pub and-true : (a b : Bool) → (a && b) ≡ true → (a ≡ true) × (b ≡ true)
 and-true true b e = (refl, e)
 and-true false b e = (e, cc)
+
+-- neither of two tests holds
+pub or-neither : (a b : Bool) → (a || b) ≡ false → (a ≡ false) × (b ≡ false)
+or-neither true b e = (e, cc)
+or-neither false b e = (refl, e)
 
 -- the first of a choice may be replaced by what it equals where the test holds
 pub pick-when : {A : Type 0} {x y : A} (z : A) (b : Bool) → (b ≡ true → x ≡ y) → pick b x z ≡ pick b y z

@@ -1,8 +1,8 @@
 -- How many of the indices below n pass a test; and that numbers from 1 to n, each once, are n.
 -- Assumes nothing.
 use Prim.Native.Nat.{ℕ, zero, suc, _+_, _≤_, _<_, zero-le}
-use mathlib.Core.Path.{_≡_, refl, sym}
-use mathlib.Core.Bool.{Bool, true, false, _&&_}
+use mathlib.Core.Path.{_≡_, refl, sym, _∙_}
+use mathlib.Core.Bool.{Bool, true, false, true≢false, _&&_}
 use native.Mathlib.Nat.{le-refl}
 use native.Mathlib.Omega.{arith}
 use native.Mathlib.Decide.{decLt, ℕ-discrete}
@@ -10,8 +10,8 @@ use borrow.Author.Tests.{eq-eqb, ne-eqb}
 use lib.Dec.{eqb}
 use Rattle.basics.specs.Choice.{only, within}
 use Rattle.basics.specs.Over.{sumTo, countTo, firstTo}
-use Rattle.basics.proofs.ChoiceLaws.{within-in, within-low, within-high}
-use Rattle.basics.proofs.SumLaws.{sum-add}
+use Rattle.basics.proofs.ChoiceLaws.{only-some, within-in, within-low, within-high}
+use Rattle.basics.proofs.SumLaws.{sum-add, sum-part, sum-found}
 use Rattle.basics.proofs.FirstIndexLaws.{first-is}
 
 -- one more where the test holds, and else none
@@ -34,6 +34,44 @@ count-some n q h = go (decLt (firstTo n q) n)
     go : Dec (firstTo n q < n) → firstTo n q < n
     go (yes d) = d
     go (no d) = let w = first-is n q in absurd (omega (arith, count-none n q (λ i l. w .clear i (omega arith))))
+
+-- one index passes, and so some do; and the other way round
+pub count-one : (n i : ℕ) (q : ℕ → Bool) → i < n → q i ≡ true → 1 ≤ countTo n q
+count-one n i q h e = let p = sum-part n i (λ k. only (q k) 1) h in rw e at p
+
+pub count-found : (n : ℕ) (q : ℕ → Bool) → 1 ≤ countTo n q → (i : ℕ) × (i < n) × (q i ≡ true)
+count-found n q h = let f = sum-found n (λ k. only (q k) 1) h in (f .0, f .1, only-some (q (f .0)) 1 (f .2) .0)
+
+-- ---- all, and one that does not pass
+
+pub count-most : (n : ℕ) (q : ℕ → Bool) → countTo n q ≤ n
+unfolding sumTo
+count-most zero q = zero-le
+count-most (suc n) q = go (q n) (count-most n q)
+  where
+    go : (b : Bool) → countTo n q ≤ n → countTo n q + only b 1 ≤ suc n
+    go true i = omega arith
+    go false i = omega arith
+
+pub count-but : (n i : ℕ) (q : ℕ → Bool) → i < n → q i ≡ false → countTo n q < n
+unfolding sumTo
+count-but zero i q h e = absurd (omega arith)
+count-but (suc n) i q h e = go (ℕ-discrete i n) (q n) refl (λ l. count-but n i q l e)
+  where
+    go : Dec (i ≡ n) → (b : Bool) → q n ≡ b → (i < n → countTo n q < n) → countTo n q + only b 1 < suc n
+    go (yes d) true f ih = absurd (true≢false (sym f ∙ rw d at e))
+    go (yes d) false f ih = omega (arith, count-most n q)
+    go (no d) true f ih = omega (arith, ih (omega arith))
+    go (no d) false f ih = omega (arith, ih (omega arith))
+
+pub count-missed : (n : ℕ) (q : ℕ → Bool) → countTo n q < n → (i : ℕ) × (i < n) × (q i ≡ false)
+unfolding sumTo
+count-missed zero q h = absurd (omega arith)
+count-missed (suc n) q h = go (q n) refl h (count-missed n q)
+  where
+    go : (b : Bool) → q n ≡ b → countTo n q + only b 1 < suc n → (countTo n q < n → (i : ℕ) × (i < n) × (q i ≡ false)) → (i : ℕ) × (i < suc n) × (q i ≡ false)
+    go true f h ih = let r = ih (omega arith) in (r .0, omega (arith, r .1), r .2)
+    go false f h ih = (n, le-refl (suc n), f)
 
 -- ---- a sum of sums, either way
 

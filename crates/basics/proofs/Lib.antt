@@ -1,10 +1,10 @@
 -- Each word's laws, stated once.
---   ChoiceLaws       stops, passes, and-true, pick-when, within-in, within-low, within-high, within-true, only-below, only-le, only-when, only-some
+--   ChoiceLaws       stops, passes, and-true, or-neither, pick-when, within-in, within-low, within-high, within-true, only-below, only-le, only-when, only-some
 --   SumLaws          sum-none, sum-more, sum-le, sum-rises, sum-part, sum-bound, sum-eq, sum-one, sum-add, sum-some, sum-wider, sum-found, sum-first, sum-scale
 --   MaxLaws          max-more, max-bound, max-le, max-rises, max-wider, max-part
 --   AllLaws          all-none, all-more, all-at, all-fails, all-hold, all-zero
 --   FirstIndexLaws   first-none, first-more, First, first-is, first-by, first-here, first-eq
---   CountLaws        count-on, count-off, count-none, count-some, sum-ones, sum-swap, count-number, count-alone
+--   CountLaws        count-on, count-off, count-none, count-some, count-one, count-found, count-most, count-but, count-missed, sum-ones, sum-swap, count-number, count-alone
 --   OnceLaws         both, and-both, pick-is, is-pick, some-count, first-below; Once, first-once, count-once, once-count
 --   JoinLaws         join-none, join-more, join-length, join-room, join-eq, join-bound, join-even, join-at, join-from
 --   RowLaws          row-length, row-at, row-is, row-eq; over-length, over-none, over-more, over-same

@@ -1,8 +1,8 @@
-// The rules that a table and a listing are both held to: 4, 5 and 7. And which of two refusals is given.
+// The rules that a table and a listing are both held to: 4, 5, 7, 17 and 18. And which of two refusals is given.
 ghost use mathlib.Core.Path.{_≡_};
 ghost use Rattle.basics.specs.Choice.{within};
 ghost use Rattle.table.specs.Faults.{_then_};
-ghost use Rattle.table.specs.Rules.{timesInRange, timesInOrder, timesFault, isUnused, usedInRange, pairInRange, totalsFit, pairFault};
+ghost use Rattle.table.specs.Rules.{timesInRange, timesInOrder, timesFault, allOrNone, mayFollow, alphaFault, isUnused, usedInRange, pairInRange, totalsFit, pairFault};
 use table::Checked;
 use table::Fault;
 use table::Pair;
@@ -29,7 +29,8 @@ pub fn in_range(x: u32, most: u32) -> bool
     x <= most
 }
 
-fn times_in_range(period: u32, run: u32, deadline: u32) -> bool
+// 4, of a task's times.
+pub fn times_in_range(period: u32, run: u32, deadline: u32) -> bool
     ensures { λ r. ⌜ r ≡ timesInRange period run deadline ⌝ }
 {
     if !in_range(period, Table::MAX_TIME) {
@@ -41,7 +42,8 @@ fn times_in_range(period: u32, run: u32, deadline: u32) -> bool
     in_range(deadline, Table::MAX_TIME)
 }
 
-fn times_in_order(period: u32, run: u32, deadline: u32) -> bool
+// 5.
+pub fn times_in_order(period: u32, run: u32, deadline: u32) -> bool
     ensures { λ r. ⌜ r ≡ timesInOrder period run deadline ⌝ }
 {
     if deadline < run {
@@ -63,6 +65,45 @@ pub fn times(place: u32, period: u32, run: u32, deadline: u32) -> Checked
     if !times_in_order(period, run, deadline) {
         return Checked::Refused(Refusal {
             fault: Fault::BadTimes,
+            place,
+        });
+    }
+    Checked::Fine
+}
+
+// 17: so many of n tasks have an alpha, all or none of them.
+pub fn all_or_none(given: usize, n: usize) -> bool
+    ensures { λ r. ⌜ r ≡ allOrNone given n ⌝ }
+{
+    if given == 0 {
+        return true;
+    }
+    given == n
+}
+
+// 18: alpha is not above that of the last task before with one, 0 where there is none.
+fn may_follow(last: u32, alpha: u32) -> bool
+    ensures { λ r. ⌜ r ≡ mayFollow last alpha ⌝ }
+{
+    if last == 0 {
+        return true;
+    }
+    alpha <= last
+}
+
+// 4, then 18, of a task's alpha.
+pub fn alpha(place: u32, last: u32, alpha: u32) -> Checked
+    ensures { λ r. ⌜ r ≡ alphaFault place last alpha ⌝ }
+{
+    if Table::MAX_ALPHA < alpha {
+        return Checked::Refused(Refusal {
+            fault: Fault::OutOfRange,
+            place,
+        });
+    }
+    if !may_follow(last, alpha) {
+        return Checked::Refused(Refusal {
+            fault: Fault::AlphaRises,
             place,
         });
     }

@@ -2,9 +2,9 @@
 use mathlib.Core.Path.{refl}
 use Rattle.basics.specs.Over.{sumTo}
 use Rattle.table.specs.Faults.{firstFault}
-use Rattle.table.specs.Rules.{timesInRange, timesInOrder, timesFault, isUnused, usedInRange, pairInRange, totalsFit, pairFault, pairsFault, taskFault, tasksFault, tableFault}
+use Rattle.table.specs.Rules.{timesInRange, timesInOrder, alphaFault, isUnused, usedInRange, pairInRange, totalsFit, pairFault, pairsFault, taskFault, lastAlpha, tasksFault, tableFault}
 use Rattle.table.specs.Cases.{cases, CasesHold}
 
 pub cases-hold : CasesHold
-unfolding cases sumTo firstFault timesInRange timesInOrder timesFault isUnused usedInRange pairInRange totalsFit pairFault pairsFault taskFault tasksFault tableFault
+unfolding cases sumTo firstFault timesInRange timesInOrder alphaFault isUnused usedInRange pairInRange totalsFit pairFault pairsFault taskFault lastAlpha tasksFault tableFault
 cases-hold = refl

@@ -24,14 +24,14 @@ unless-fine false fault place e = cc
 
 -- ---- a task's times: 4 and 5 together are its bounds
 
-good-times : {T C D : ℕ} → TimesInRange T C D → TimesInOrder T C D → GoodTimes T C D
+pub good-times : {T C D : ℕ} → TimesInRange T C D → TimesInOrder T C D → GoodTimes T C D
 good-times r o =
     record { run-least = r .run .0; run-deadline = o .run-deadline; deadline-period = o .deadline-period; period-most = r .period .1 }
 
-times-range : {T C D : ℕ} → GoodTimes T C D → TimesInRange T C D
+pub times-range : {T C D : ℕ} → GoodTimes T C D → TimesInRange T C D
 times-range g = record { period = (omega arith, omega arith); run = (omega arith, omega arith); deadline = (omega arith, omega arith) }
 
-times-order : {T C D : ℕ} → GoodTimes T C D → TimesInOrder T C D
+pub times-order : {T C D : ℕ} → GoodTimes T C D → TimesInOrder T C D
 times-order g = record { run-deadline = g .run-deadline; deadline-period = g .deadline-period }
 
 pub times-good : (place T C D : ℕ) → timesFault place T C D ≡ Fine → GoodTimes T C D

@@ -1,6 +1,6 @@
 -- "The same" is an equivalence of tables, and the check cannot tell two tables apart that are the same. A table is the same with zeros past its nth task.
 -- Assumes nothing.
-use Prim.Native.Nat.{ℕ, _+_, _≤_}
+use Prim.Native.Nat.{ℕ, zero, suc, _+_, _≤_}
 use mathlib.Core.Path.{_≡_, refl, sym, ap, _∙_}
 use native.Mathlib.Omega.{arith}
 use borrow.Author.Tests.{lt-ltb}
@@ -14,7 +14,7 @@ use Rattle.table.specs.Limits.{maxTasks, maxResources}
 use Rattle.table.specs.Empty.{unusedPair}
 use Rattle.table.specs.At.{noTask, taskAt, pairOf, totalOf, SameTask, Same}
 use Rattle.table.specs.Faults.{firstFault}
-use Rattle.table.specs.Rules.{pairFaultOf, pairsFault, taskFault, taskFaultAt, tasksFault, tableFault}
+use Rattle.table.specs.Rules.{pairFaultOf, pairsFault, taskFault, alphasTo, lastAlpha, taskFaultAt, tasksFault, tableFault}
 use Rattle.table.specs.Cleared.{clearedTask, cleared, ClearedSame}
 use Rattle.table.proofs.Acceptance.{fine-accepted}
 use Rattle.table.proofs.FirstLaws.{first-same}
@@ -24,12 +24,12 @@ same-refl a =
     record {
       cpus = refl;
       n = refl;
-      tasks = λ i h. record { period = refl; run = refl; deadline = refl; pairs = λ k l. refl };
+      tasks = λ i h. record { period = refl; run = refl; deadline = refl; alpha = refl; pairs = λ k l. refl };
     }
 
 task-sym : (x y : Task) → SameTask x y → SameTask y x
 task-sym x y s =
-    record { period = sym (s .period); run = sym (s .run); deadline = sym (s .deadline); pairs = λ k l. sym (s .pairs k l) }
+    record { period = sym (s .period); run = sym (s .run); deadline = sym (s .deadline); alpha = sym (s .alpha); pairs = λ k l. sym (s .pairs k l) }
 
 pub same-sym : (a b : Table) → Same a b → Same b a
 same-sym a b s =
@@ -41,6 +41,7 @@ task-trans x y z s t =
       period = s .period ∙ t .period;
       run = s .run ∙ t .run;
       deadline = s .deadline ∙ t .deadline;
+      alpha = s .alpha ∙ t .alpha;
       pairs = λ k l. s .pairs k l ∙ t .pairs k l;
     }
 
@@ -61,16 +62,25 @@ pairs-same place x y s =
     first-same maxResources (pairFaultOf place x) (pairFaultOf place y)
     (λ k h. rw (s .pairs k h, sum-same x y s (k + 1) (omega arith), s .run))
 
-pub task-same : (place : ℕ) (x y : Task) → SameTask x y → taskFault place x ≡ taskFault place y
+task-same : (place last : ℕ) (x y : Task) → SameTask x y → taskFault place last x ≡ taskFault place last y
 unfolding taskFault
-task-same place x y s = rw (pairs-same place x y s, s .period, s .run, s .deadline)
+task-same place last x y s = rw (pairs-same place x y s, s .period, s .run, s .deadline, s .alpha)
+
+last-same : (a b : Table) → Same a b → (i : ℕ) → i ≤ a .n → lastAlpha a i ≡ lastAlpha b i
+unfolding lastAlpha
+last-same a b s zero h = refl
+last-same a b s (suc i) h = rw (last-same a b s i (omega arith), s .tasks i h .alpha)
+
+given-same : (a b : Table) → Same a b → alphasTo a (a .n) ≡ alphasTo b (b .n)
+given-same a b s = sum-eq (a .n) _ _ (λ i h. rw (s .tasks i h .alpha)) ∙ ap (alphasTo b) (s .n)
 
 pub same-fault : (a b : Table) → Same a b → tableFault a ≡ tableFault b
 unfolding tableFault tasksFault
 same-fault a b s =
     let e : firstFault (a .n) (taskFaultAt a) ≡ firstFault (b .n) (taskFaultAt b) =
-    rw (s .n) (first-same (b .n) (taskFaultAt a) (taskFaultAt b) (λ i h. task-same (i + 1) _ _ (s .tasks i (rw (s .n) h)))) in
-    rw (e, s .cpus, s .n)
+    first-same (a .n) (taskFaultAt a) (taskFaultAt b) (λ i h. rw (last-same a b s i (omega arith)) (task-same (i + 1) (lastAlpha b i) _ _ (s .tasks i h)))
+    ∙ ap (λ (n : ℕ). firstFault n (taskFaultAt b)) (s .n) in
+    rw (e, given-same a b s, s .cpus, s .n)
 
 -- a table with zeros past the nth task is the same
 pub cleared-same : ClearedSame
@@ -81,5 +91,5 @@ cleared-same t e =
       n = refl;
       tasks = λ i h.
           rw (row-at maxTasks i _ noTask (omega (arith, fine-accepted t e .tasks-most)), lt-ltb i (t .n) h)
-          (record { period = refl; run = refl; deadline = refl; pairs = λ k l. sym (row-at maxResources k (pairOf (taskAt t i)) unusedPair l) });
+          (record { period = refl; run = refl; deadline = refl; alpha = refl; pairs = λ k l. sym (row-at maxResources k (pairOf (taskAt t i)) unusedPair l) });
     }

@@ -11,18 +11,29 @@ use Rattle.table.specs.Empty.{unusedPair}
 
 -- what the checker reads past a row's end, so that `taskAt t i` is the code's `t.tasks[i]`
 abbrev pub noTask : Task
-noTask = record { period = 0; run = 0; deadline = 0; pairs = [] }
+noTask = record { period = 0; run = 0; deadline = 0; alpha = 0; pairs = [] }
 
--- a pair of N, c and CT, and a task of T, C, D and pairs
+-- a pair of N, c and CT; and a task of T, C, D and pairs, without alpha, and one with it
 abbrev pub aPair : ℕ → ℕ → ℕ → Pair
 aPair N c CT = record { requests = N; longest = c; total = CT }
 
 abbrev pub aTask : ℕ → ℕ → ℕ → List Pair → Task
-aTask T C D pairs = record { period = T; run = C; deadline = D; pairs = pairs }
+aTask T C D pairs = record { period = T; run = C; deadline = D; alpha = 0; pairs = pairs }
+
+abbrev pub withAlpha : ℕ → Task → Task
+withAlpha A x = record { period = x .period; run = x .run; deadline = x .deadline; alpha = A; pairs = x .pairs }
 
 -- task i + 1 of the paper
 abbrev pub taskAt : Table → ℕ → Task
 taskAt t i = getD (t .tasks) i noTask
+
+-- and its alpha, 0 for none
+abbrev pub alphaAt : Table → ℕ → ℕ
+alphaAt t i = taskAt t i .alpha
+
+-- none of the n tasks has one
+abbrev pub NoAlpha : Table → Type 0
+NoAlpha t = (i : ℕ) → i < t .n → alphaAt t i ≡ 0
 
 -- resource k + 1 of a task
 abbrev pub pairOf : Task → ℕ → Pair
@@ -35,11 +46,12 @@ pairAt t i k = pairOf (taskAt t i) k
 abbrev pub totalOf : Task → ℕ → ℕ
 totalOf x k = pairOf x k .total
 
--- "Two tables are the same if processors, n and the first n tasks agree"
+-- "Two tables are the same if processors, n and the first n tasks agree"; "tables are the same only if [alpha] agrees too" (document 02, 8/12)
 pub record SameTask (x y : Task) : Type 0 where
   pub period : x .period ≡ y .period
   pub run : x .run ≡ y .run
   pub deadline : x .deadline ≡ y .deadline
+  pub alpha : x .alpha ≡ y .alpha
   pub pairs : (k : ℕ) → k < maxResources → pairOf x k ≡ pairOf y k
 
 pub record Same (a b : Table) : Type 0 where

@@ -6,11 +6,11 @@ use lib.ListN.{replicate}
 use Rattle.table.specs.declared.Pair.{Pair}
 use Rattle.table.specs.declared.Task.{Task}
 use Rattle.table.specs.declared.Table.{Table}
-use Rattle.table.specs.declared.Fault.the-variants.{OutOfRange, BadTimes, BadTotals, TooManyTasks, NoTask}
+use Rattle.table.specs.declared.Fault.the-variants.{OutOfRange, BadTimes, BadTotals, TooManyTasks, NoTask, AlphaMissing, AlphaRises}
 use Rattle.table.specs.declared.Checked.{Checked}
 use Rattle.table.specs.declared.Checked.the-variants.{Fine}
 use Rattle.table.specs.Empty.{unusedPair}
-use Rattle.table.specs.At.{aPair, aTask}
+use Rattle.table.specs.At.{aPair, aTask, withAlpha}
 use Rattle.table.specs.Faults.{at}
 use Rattle.table.specs.Rules.{tableFault}
 
@@ -29,6 +29,10 @@ good = aTask 10_000 2_500 10_000 (aPair 1 500 500 ∷ [])
 -- a task with these pairs
 abbrev holding : List Pair → Task
 holding pairs = aTask 10_000 2_500 10_000 pairs
+
+-- the same with an alpha
+abbrev tuned : ℕ → Task
+tuned A = withAlpha A good
 
 -- one task, on two processors
 abbrev one : Task → Checked → Case
@@ -97,6 +101,26 @@ cases =
     ∷ case 2 2 (holding (sixteenth (aPair 3 100 99)) ∷ aTask 0 1 1 [] ∷ []) (at BadTotals 1)
     -- slots past the nth are not looked at
     ∷ case 2 2 (good ∷ good ∷ largest ∷ []) Fine
+    -- alpha for all, never rising, up to 64
+    ∷ case 2 3 (tuned 64 ∷ tuned 64 ∷ tuned 1 ∷ []) Fine
+    -- 17, whichever has it, and whatever it is; after 9, 8 and m, and before the tasks
+    ∷ case 2 2 (good ∷ tuned 1 ∷ []) (at AlphaMissing 0)
+    ∷ case 2 3 (tuned 2 ∷ good ∷ tuned 3 ∷ []) (at AlphaMissing 0)
+    ∷ case 2 2 (withAlpha 200 largest ∷ good ∷ []) (at AlphaMissing 0)
+    ∷ case 2 0 (tuned 1 ∷ good ∷ []) (at NoTask 0)
+    ∷ case 2 33 (tuned 1 ∷ good ∷ []) (at TooManyTasks 0)
+    ∷ case 0 2 (tuned 1 ∷ good ∷ []) (at OutOfRange 0)
+    -- slots past the nth are not looked at for it
+    ∷ case 2 2 (tuned 1 ∷ tuned 1 ∷ good ∷ []) Fine
+    ∷ case 2 1 (good ∷ tuned 1 ∷ []) Fine
+    -- alpha above 64 is 4 after T, C and D, and before 18 and 5; 18 before 5; the place is the task's number
+    ∷ one (tuned 65) (at OutOfRange 1)
+    ∷ case 2 2 (tuned 64 ∷ withAlpha 65 (aTask 10 9 8 []) ∷ []) (at OutOfRange 2)
+    ∷ case 2 2 (tuned 2 ∷ withAlpha 3 (aTask 10 9 8 []) ∷ []) (at AlphaRises 2)
+    ∷ case 2 2 (tuned 2 ∷ withAlpha 3 (aTask 10 0 8 []) ∷ []) (at OutOfRange 2)
+    ∷ case 2 2 (tuned 3 ∷ withAlpha 3 (aTask 10 9 8 []) ∷ []) (at BadTimes 2)
+    -- 18 is against the task before, not the first
+    ∷ case 2 3 (tuned 9 ∷ tuned 2 ∷ tuned 3 ∷ []) (at AlphaRises 3)
     ∷ []
 
 abbrev pub CasesHold : Type 0

@@ -12,7 +12,7 @@ use Rattle.table.specs.At.{taskAt, pairOf, Same}
 use Rattle.table.specs.Rules.{tableFault}
 
 unfoldable pub clearedTask : Task → Task
-clearedTask x = record { period = x .period; run = x .run; deadline = x .deadline; pairs = rowTo maxResources (pairOf x) }
+clearedTask x = record { period = x .period; run = x .run; deadline = x .deadline; alpha = x .alpha; pairs = rowTo maxResources (pairOf x) }
 
 unfoldable pub cleared : Table → Table
 cleared t =

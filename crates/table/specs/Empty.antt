@@ -10,7 +10,7 @@ abbrev pub unusedPair : Pair
 unusedPair = record { requests = 0; longest = 0; total = 0 }
 
 unfoldable pub emptyTask : Task
-emptyTask = record { period = 0; run = 0; deadline = 0; pairs = replicate maxResources unusedPair }
+emptyTask = record { period = 0; run = 0; deadline = 0; alpha = 0; pairs = replicate maxResources unusedPair }
 
 unfoldable pub emptyTable : Table
 emptyTable = record { cpus = 0; n = 0; tasks = replicate maxTasks emptyTask }

@@ -1,4 +1,4 @@
--- The limits of document 01, "Quantities". The function `limits` ties each to the constant of `Table`.
+-- The limits of document 01, "Quantities", and of request 8/12 of document 02. The function `limits` ties each to the constant of `Table`.
 use Prim.Native.Nat.{ℕ}
 
 -- processors
@@ -18,6 +18,10 @@ maxTime = 10_000_000
 -- request counts
 abbrev pub maxCount : ℕ
 maxCount = 1_000
+
+-- alpha, "from 1 to 64"
+abbrev pub maxAlpha : ℕ
+maxAlpha = 64
 
 -- bytes of a listing
 abbrev pub maxListing : ℕ

@@ -1,4 +1,4 @@
--- Document 01, "Refusals by number": the number and the place that a table handed over directly calls for, said a second way. `Rules` says it by tests in a chain
+-- Document 01, "Refusals by number", and request 8/12 of document 02: the number and the place that a table handed over directly calls for, said a second way. `Rules` says it by tests in a chain
 -- that the first fault ends; here each case stands by itself, in the paper's order, over bounds, and `RefusedAsCalled` says that the two agree.
 use Prim.Native.Nat.{ℕ, _+_, _*_, _≤_, _<_}
 use mathlib.Core.Path.{_≡_}
@@ -9,9 +9,9 @@ use Rattle.table.specs.declared.Pair.{Pair}
 use Rattle.table.specs.declared.Task.{Task}
 use Rattle.table.specs.declared.Table.{Table}
 use Rattle.table.specs.declared.Checked.the-variants.{Fine}
-use Rattle.table.specs.Limits.{maxCpus, maxTasks, maxResources, maxTime, maxCount}
+use Rattle.table.specs.Limits.{maxCpus, maxTasks, maxResources, maxTime, maxCount, maxAlpha}
 use Rattle.table.specs.Empty.{unusedPair}
-use Rattle.table.specs.At.{taskAt, pairOf, totalOf}
+use Rattle.table.specs.At.{taskAt, alphaAt, pairAt, totalOf}
 use Rattle.table.specs.Faults.{Refuses}
 use Rattle.table.specs.Rules.{tableFault}
 use Rattle.table.specs.Accepted.{GoodTo, GoodTask, Accepted}
@@ -32,6 +32,10 @@ pub record TimesInOrder (T C D : ℕ) : Type 0 where
   pub run-deadline : C ≤ D
   pub deadline-period : D ≤ T
 
+-- either of these, of the times of a task
+abbrev pub TimesIn : Task → (ℕ → ℕ → ℕ → Type 0) → Type 0
+TimesIn x R = R (x .period) (x .run) (x .deadline)
+
 -- 4, of a pair in use
 pub record UsedInRange (p : Pair) : Type 0 where
   pub requests : InRange 1 maxCount (p .requests)
@@ -48,18 +52,41 @@ pub record TotalsFit (p : Pair) (sum C : ℕ) : Type 0 where
   pub total-product : p .total ≤ p .requests * p .longest
   pub sum-run : sum ≤ C
 
--- ---- the number that a task calls for
+-- ---- alpha
 
-pub data TaskCallsFor (x : Task) : ℕ → Type 0 where
+-- 17, "alpha given for some tasks only": of the first n tasks one has an alpha and one has none
+pub record SomeOnly (t : Table) : Type 0 where
+  pub with : ℕ
+  pub without : ℕ
+  pub with-in : with < t .n
+  pub without-in : without < t .n
+  pub given : 1 ≤ alphaAt t with
+  pub none : alphaAt t without ≡ 0
+
+-- 18, "alpha above that of the last task before with one": of the task at slot i
+pub record RisesAt (t : Table) (i : ℕ) : Type 0 where
+  pub before : ℕ
+  pub earlier : before < i
+  pub given : 1 ≤ alphaAt t before
+  pub last : (j : ℕ) → before < j → j < i → alphaAt t j ≡ 0
+  pub above : alphaAt t before < alphaAt t i
+
+-- ---- the number that the task at slot i calls for
+
+pub data TaskCallsFor (t : Table) (i : ℕ) : ℕ → Type 0 where
   -- "T, C, D (4)"
-  out-of-range : (TimesInRange (x .period) (x .run) (x .deadline) → ⊥) → TaskCallsFor x 4
-  -- "5"
-  bad-times : TimesInRange (x .period) (x .run) (x .deadline) → (TimesInOrder (x .period) (x .run) (x .deadline) → ⊥) → TaskCallsFor x 5
-  -- "then resources 1 to 16, each 4": resource k + 1, where nothing is said against the times and the resources before it
-  pair-out-of-range : (k : ℕ) → k < maxResources → GoodTo x k → (PairInRange (pairOf x k) → ⊥) → TaskCallsFor x 4
+  out-of-range : (TimesIn (taskAt t i) TimesInRange → ⊥) → TaskCallsFor t i 4
+  -- alpha "above 64 is 4 right after D"
+  alpha-out-of-range : TimesIn (taskAt t i) TimesInRange → maxAlpha < alphaAt t i → TaskCallsFor t i 4
+  -- "then 18"
+  alpha-rises : TimesIn (taskAt t i) TimesInRange → alphaAt t i ≤ maxAlpha → RisesAt t i → TaskCallsFor t i 18
+  -- "then 5"
+  bad-times : TimesIn (taskAt t i) TimesInRange → alphaAt t i ≤ maxAlpha → (RisesAt t i → ⊥) → (TimesIn (taskAt t i) TimesInOrder → ⊥) → TaskCallsFor t i 5
+  -- "then resources 1 to 16, each 4": resource k + 1, where nothing is said against the times, alpha and the resources before it
+  pair-out-of-range : (k : ℕ) → k < maxResources → GoodTo (taskAt t i) k → (RisesAt t i → ⊥) → (PairInRange (pairAt t i k) → ⊥) → TaskCallsFor t i 4
   -- "then 7"
-  bad-totals : (k : ℕ) → k < maxResources → GoodTo x k → PairInRange (pairOf x k) → (TotalsFit (pairOf x k) (sumTo (k + 1) (totalOf x)) (x .run) → ⊥)
-      → TaskCallsFor x 7
+  bad-totals : (k : ℕ) → k < maxResources → GoodTo (taskAt t i) k → (RisesAt t i → ⊥) → PairInRange (pairAt t i k)
+      → (TotalsFit (pairAt t i k) (sumTo (k + 1) (totalOf (taskAt t i))) (taskAt t i .run) → ⊥) → TaskCallsFor t i 7
 
 -- ---- the number and the place that a table calls for
 
@@ -70,9 +97,11 @@ pub data CallsFor (t : Table) : ℕ → ℕ → Type 0 where
   too-many : maxTasks < t .n → CallsFor t 8 0
   -- "m (4), each with place 0"
   bad-cpus : InRange 1 maxTasks (t .n) → (InRange 1 maxCpus (t .cpus) → ⊥) → CallsFor t 4 0
+  -- 17, "place 0, .. after m in a table"
+  alpha-missing : InRange 1 maxTasks (t .n) → InRange 1 maxCpus (t .cpus) → SomeOnly t → CallsFor t 17 0
   -- "then task by task .., the place being the task number": task i + 1, where nothing is said against those before it. "Slots past the nth task are not looked at."
-  at-task : (i : ℕ) {number : ℕ} → InRange 1 maxTasks (t .n) → InRange 1 maxCpus (t .cpus) → i < t .n → ((j : ℕ) → j < i → GoodTask (taskAt t j))
-      → TaskCallsFor (taskAt t i) number → CallsFor t number (i + 1)
+  at-task : (i : ℕ) {number : ℕ} → InRange 1 maxTasks (t .n) → InRange 1 maxCpus (t .cpus) → (SomeOnly t → ⊥) → i < t .n
+      → ((j : ℕ) → j < i → GoodTask (taskAt t j) × (RisesAt t j → ⊥)) → TaskCallsFor t i number → CallsFor t number (i + 1)
 
 -- ---- the two agree
 

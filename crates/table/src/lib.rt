@@ -1,6 +1,6 @@
 // The task table: its types, its limits and its refusals. The rules that it is held to stand in specs/; their code is in `rules` and `checking`.
 ghost use mathlib.Core.Path.{_≡_};
-ghost use Rattle.table.specs.Limits.{maxCpus, maxTasks, maxResources, maxTime, maxCount, maxListing};
+ghost use Rattle.table.specs.Limits.{maxCpus, maxTasks, maxResources, maxTime, maxCount, maxAlpha, maxListing};
 ghost use Rattle.table.specs.Empty.{unusedPair, emptyTask, emptyTable};
 ghost use Rattle.table.specs.Faults.{numberOf};
 
@@ -21,6 +21,7 @@ pub struct Task {
     pub period: u32, // T: shortest time between releases
     pub run: u32, // C: run time
     pub deadline: u32, // D
+    pub alpha: u32, // A: the tuning number of P-PCP, 0 where none is given
     pub pairs: [Pair; Table::MAX_RESOURCES], // resource k at k - 1
 }
 
@@ -48,6 +49,8 @@ pub enum Fault {
     Mismatch,
     BadCard,
     NoRounds,
+    AlphaMissing,
+    AlphaRises,
 }
 
 // A fault, and where it was found: a line, a task, or a block of an archive.
@@ -95,6 +98,8 @@ impl Fault {
             Fault::Mismatch => 14,
             Fault::BadCard => 15,
             Fault::NoRounds => 16,
+            Fault::AlphaMissing => 17,
+            Fault::AlphaRises => 18,
         }
     }
 }
@@ -120,6 +125,7 @@ impl Task {
             period: 0,
             run: 0,
             deadline: 0,
+            alpha: 0,
             pairs,
         }
     }
@@ -135,6 +141,8 @@ impl Table {
     pub const MAX_TIME: u32 = 10_000_000; // µs
 
     pub const MAX_COUNT: u32 = 1_000;
+
+    pub const MAX_ALPHA: u32 = 64;
 
     pub const MAX_LISTING: usize = 65_536; // bytes
 
@@ -158,5 +166,6 @@ fn limits()
     ensures { λ _. do ⌜ (← ⟦Table::MAX_RESOURCES⟧ .entry) ≡ maxResources ⌝ }
     ensures { λ _. do ⌜ (← ⟦Table::MAX_TIME⟧ .entry) ≡ maxTime ⌝ }
     ensures { λ _. do ⌜ (← ⟦Table::MAX_COUNT⟧ .entry) ≡ maxCount ⌝ }
+    ensures { λ _. do ⌜ (← ⟦Table::MAX_ALPHA⟧ .entry) ≡ maxAlpha ⌝ }
     ensures { λ _. do ⌜ (← ⟦Table::MAX_LISTING⟧ .entry) ≡ maxListing ⌝ }
 {}

@@ -1,10 +1,16 @@
 -- `checking::check` meets its contract: at each `return` the tests that led there say which part of `tableFault` decides. Assumes nothing.
 use borrow.Author.Needs.{needs}
 use borrow.Author.Tests.{le-leb, lt-leb}
-use Rattle.table.specs.Rules.{tableFault}
+use mathlib.Core.Path.{_≡_}
+use Rattle.table.specs.Rules.{allOrNone, alphasTo, tableFault}
 use Rattle.basics.proofs.ChoiceLaws.{stops, passes}
 use Rattle.checking.proofs.check.Statement.{statement}
 use Rattle.checking.proofs.check.Tie as tie
+
+-- what the call found is said of how many tasks have an alpha
+counted : (c : tie.After-all-or-none) → let t = c .before .before .before .before .before .before .before .before .args .t in
+    c .all-or-none .result ≡ allOrNone (alphasTo t (t .n)) (t .n)
+counted c = rw (← c .before .alphas-in .ensures) (c .all-or-none .ensures)
 
 returns : tie.Need-returns
 unfolding tableFault
@@ -24,13 +30,31 @@ returns-3 c =
 returns-4 : tie.Need-returns-4
 unfolding tableFault
 returns-4 c =
-    let a = c .before in
+    let a = c .before .before .before in
     let b = a .before .before in
     simp
-    (le-leb _ _ (b .before .before .if1 .left), le-leb _ _ (b .if2 .left), passes (a .before .in-range .ensures) (a .if3 .left))
+    (le-leb _ _ (b .before .before .if1 .left), le-leb _ _ (b .if2 .left), passes (a .before .in-range .ensures) (a .if3 .left), stops (counted (c .before)) (c .if4 .taken))
+
+returns-5 : tie.Need-returns-5
+unfolding tableFault
+returns-5 c =
+    let d = c .before .before in
+    let a = d .before .before in
+    let b = a .before .before in
+    simp
+    (le-leb _ _ (b .before .before .if1 .left), le-leb _ _ (b .if2 .left), passes (a .before .in-range .ensures) (a .if3 .left), passes (counted d) (c .before .if4 .left))
     (c .check-tasks .ensures)
 
 pub check-spec : {M : Type 1} → statement M
 check-spec =
     tie.close
-    (tie.spec returns returns-2 (λ c κs. search needs) returns-3 (λ c κs. search needs) returns-4)
+    (tie.spec
+    returns
+    returns-2
+    (λ c κs. search needs)
+    returns-3
+    (λ c κs. search needs)
+    (λ c κs. search needs)
+    returns-4
+    (λ c κs. search needs)
+    returns-5)

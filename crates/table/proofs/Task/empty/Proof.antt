@@ -9,7 +9,7 @@ use Rattle.table.proofs.Task.empty.Statement.{statement}
 use Rattle.table.proofs.Task.empty.Tie as tie
 
 abbrev row : Pair → Task
-row p = record { period = 0; run = 0; deadline = 0; pairs = replicate 16 p }
+row p = record { period = 0; run = 0; deadline = 0; alpha = 0; pairs = replicate 16 p }
 
 returns : tie.Need-returns
 unfolding emptyTask
