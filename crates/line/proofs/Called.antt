@@ -20,13 +20,14 @@ use Rattle.line.specs.declared.Past.{Past}
 use Rattle.line.specs.declared.Said.{Said}
 use Rattle.line.specs.declared.Said.the-variants.{Not}
 use Rattle.line.specs.Fields.{form}
-use Rattle.line.specs.Line.{_gives_, cpusLine, taskLine, useLine, lineSays}
+use Rattle.line.specs.Line.{_gives_, cpusLine, taskLine, alphaLine, useLine, lineSays}
 use Rattle.line.specs.Stated.{Without, IsLine}
 use Rattle.line.specs.Refusals.{LineCallsFor, SaysNot, LineRefused}
 use Rattle.line.proofs.WordLaws.{form-line}
 use Rattle.line.proofs.LineForm.{line-fields, line-form, form-other}
-use Rattle.line.proofs.StatedLaws.{others-alone, cpus-word, task-word, use-word}
+use Rattle.line.proofs.StatedLaws.{others-alone, cpus-word, task-word, alpha-word, use-word}
 use Rattle.line.proofs.FieldCalls.{cpus-calls, cpus-given, task-calls, task-given}
+use Rattle.line.proofs.AlphaCalls.{alpha-calls, alpha-given}
 use Rattle.line.proofs.UseCalls.{use-calls, use-given}
 
 -- ---- what is said after a check
@@ -61,6 +62,9 @@ module _ (past : Past) (n : ℕ) (s : List ℕ) where
   abbrev isTask : Bool
   isTask = form (bytes "task") 4 s && ltb 1 n
 
+  abbrev isAlpha : Bool
+  isAlpha = form (bytes "alpha") 2 s && past .fresh
+
   abbrev isUse : Bool
   isUse = form (bytes "use") 5 s && ltb 0 (past .tasks)
 
@@ -69,6 +73,9 @@ module _ (past : Past) (n : ℕ) (s : List ℕ) where
 
   task-form : 1 < n → {t c d : List ℕ} → IsLine "task" (t ∷ c ∷ d ∷ []) s → isTask ≡ true
   task-form h l = rw (line-form task-word l, lt-ltb 1 n h)
+
+  alpha-form : past .fresh ≡ true → {a : List ℕ} → IsLine "alpha" (a ∷ []) s → isAlpha ≡ true
+  alpha-form e l = rw (line-form alpha-word l, e)
 
   use-form : 1 ≤ past .tasks → {k r c ct : List ℕ} → IsLine "use" (k ∷ r ∷ c ∷ ct ∷ []) s → isUse ≡ true
   use-form h l = rw (line-form use-word l, lt-ltb 0 (past .tasks) h)
@@ -79,17 +86,18 @@ module _ (past : Past) (n : ℕ) (s : List ℕ) where
   Called k p x = SaysNot x k p → LineCallsFor past n s k × (p ≡ n)
 
   -- of none of these forms and places
-  form-called : (k p : ℕ) → isCpus ≡ false → isTask ≡ false → isUse ≡ false → Called k p (Not (record { fault = BadForm; place = n }))
-  form-called k p x y z q =
+  form-called : (k p : ℕ) → isCpus ≡ false → isTask ≡ false → isAlpha ≡ false → isUse ≡ false → Called k p (Not (record { fault = BadForm; place = n }))
+  form-called k p x y v z q =
       let r = not-told q in (
         rw (← r .0) (LineCallsFor.bad-form (λ e m l. fails isCpus (λ (l : IsLine "cpus" (m ∷ []) s). cpus-form e l) x l)
             (λ h t c d l. fails isTask (λ (l : IsLine "task" (t ∷ c ∷ d ∷ []) s). task-form h l) y l)
+            (λ e a l. fails isAlpha (λ (l : IsLine "alpha" (a ∷ []) s). alpha-form e l) v l)
             (λ h k r c ct l. fails isUse (λ (l : IsLine "use" (k ∷ r ∷ c ∷ ct ∷ []) s). use-form h l) z l)),
         sym (r .1),
       )
 
   line-calls : (k p : ℕ) → Without 10 s → Called k p (lineSays past n s)
-  unfolding lineSays cpusLine taskLine useLine
+  unfolding lineSays cpusLine taskLine alphaLine useLine
   line-calls k p w =
       chosen isCpus _ _ (Called k p)
       (λ x q.
@@ -101,22 +109,28 @@ module _ (past : Past) (n : ℕ) (s : List ℕ) where
       let f = and-true (form (bytes "task") 4 s) (ltb 1 n) y in
       let r = task-calls past n (others-alone s 0) (others-alone s 1) (others-alone s 2) k p (not-given _ (λ r e. cc) q) in
       (LineCallsFor.of-task (ltb-true 1 n (f .1)) (form-line "task" 3 s w (f .0)) (r .0), sym (r .1)))
-      (λ y. chosen isUse _ _ (Called k p)
+      (λ y. chosen isAlpha _ _ (Called k p)
+      (λ v q.
+      let f = and-true (form (bytes "alpha") 2 s) (past .fresh) v in
+      let r = alpha-calls past n (others-alone s 0) k p (not-given _ (λ r e. cc) q) in
+      (LineCallsFor.of-alpha (f .1) (form-line "alpha" 1 s w (f .0)) (r .0), sym (r .1)))
+      (λ v. chosen isUse _ _ (Called k p)
       (λ z q.
       let f = and-true (form (bytes "use") 5 s) (ltb 0 (past .tasks)) z in
       let r = use-calls past n (others-alone s 0) (others-alone s 1) (others-alone s 2) (others-alone s 3) k p (not-given _ (λ r e. cc) q) in
       (LineCallsFor.of-use (ltb-true 0 _ (f .1)) (form-line "use" 4 s w (f .0)) (r .0), sym (r .1)))
-      (λ z. form-called k p x y z)))
+      (λ z. form-called k p x y v z))))
 
   -- ---- and what is called for is said
 
   line-given : {k : ℕ} → Without 10 s → LineCallsFor past n s k → SaysNot (lineSays past n s) k n
-  unfolding lineSays cpusLine taskLine useLine
-  line-given w (LineCallsFor.bad-form h i j) =
+  unfolding lineSays cpusLine taskLine alphaLine useLine
+  line-given w (LineCallsFor.bad-form h i g j) =
       let x = failing isCpus (and-true (form (bytes "cpus") 2 s) (eqb n 1)) (λ f. h (eqb-true n 1 (f .1)) _ (form-line "cpus" 1 s w (f .0))) in
       let y = failing isTask (and-true (form (bytes "task") 4 s) (ltb 1 n)) (λ f. i (ltb-true 1 n (f .1)) _ _ _ (form-line "task" 3 s w (f .0))) in
       let z = failing isUse (and-true (form (bytes "use") 5 s) (ltb 0 (past .tasks))) (λ f. j (ltb-true 0 _ (f .1)) _ _ _ _ (form-line "use" 4 s w (f .0))) in
-      rw (x, y, z) (_, refl, record { number = refl; place = refl })
+      let v = failing isAlpha (and-true (form (bytes "alpha") 2 s) (past .fresh)) (λ f. g (f .1) _ (form-line "alpha" 1 s w (f .0))) in
+      rw (x, y, v, z) (_, refl, record { number = refl; place = refl })
   line-given w (LineCallsFor.of-cpus {m} e l c) =
       let o = line-fields cpus-word l .1 in
       rw (cpus-form e l, o) (given-not _ _ (cpus-given n (rw o at (others-alone s 0)) c))
@@ -124,12 +138,19 @@ module _ (past : Past) (n : ℕ) (s : List ℕ) where
       let o = line-fields task-word l .1 in
       let f : isCpus ≡ false = rw (ne-eqb n 1 (λ e. omega arith), and-false) in
       rw (f, task-form h l, o) (given-not _ _ (task-given past n (rw o at (others-alone s 0)) (rw o at (others-alone s 1)) (rw o at (others-alone s 2)) x))
+  line-given w (LineCallsFor.of-alpha {a} e l x) =
+      let o = line-fields alpha-word l in
+      let u : form (bytes "alpha") 2 s ≡ true = line-form alpha-word l in
+      let f : form (bytes "cpus") 2 s ≡ false = rw (o .0, and-false) in
+      let g = form-other (bytes "alpha") (bytes "task") 2 4 s u refl in
+      rw (f, g, alpha-form e l, o .1) (given-not _ _ (alpha-given past n (rw (o .1) at (others-alone s 0)) x))
   line-given w (LineCallsFor.of-use {k} {r} {c} {ct} h l x) =
       let o = line-fields use-word l .1 in
       let u : form (bytes "use") 5 s ≡ true = line-form use-word l in
       let f = form-other (bytes "use") (bytes "cpus") 5 2 s u refl in
       let g = form-other (bytes "use") (bytes "task") 5 4 s u refl in
-      rw (f, g, use-form h l, o)
+      let v = form-other (bytes "use") (bytes "alpha") 5 2 s u refl in
+      rw (f, g, v, use-form h l, o)
       (given-not _ _ (use-given past n (rw o at (others-alone s 0)) (rw o at (others-alone s 1)) (rw o at (others-alone s 2)) (rw o at (others-alone s 3)) x))
 
 pub line-refused : LineRefused

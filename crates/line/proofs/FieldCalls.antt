@@ -37,7 +37,7 @@ module _ (n : ℕ) {m : List ℕ} (a : first m ≡ m) where
   abbrev CpusCalls : ℕ → ℕ → Type 0
   CpusCalls k p = CpusLineCalls m k × (n ≡ p)
 
-  count-formed : (formed (countField m) ≡ true) exactly-if ((M : ℕ) × StatesCount m M)
+  pub count-formed : (formed (countField m) ≡ true) exactly-if ((M : ℕ) × StatesCount m M)
   count-formed = (λ e. (_, count-in a (formed-states (countField m) e)), λ s. rw (count-stated (s .1) .is))
 
   pub cpus-calls : (k p : ℕ) → Refuses cpusCheck k p → CpusCalls k p

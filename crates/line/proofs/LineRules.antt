@@ -8,13 +8,14 @@ use Rattle.basics.specs.Text.{bytes}
 use Rattle.table.specs.declared.Pair.{Pair}
 use Rattle.table.specs.declared.Refusal.{Refusal}
 use Rattle.table.specs.declared.Resource.{Resource}
-use Rattle.table.specs.Limits.{maxCpus, maxTasks, maxResources}
+use Rattle.table.specs.Limits.{maxCpus, maxTasks, maxResources, maxAlpha}
+use Rattle.table.specs.Rules.{mayFollow}
 use Rattle.table.specs.Accepted.{GoodTimes, GoodPair}
 use Rattle.field.specs.declared.Field.{Field}
 use Rattle.field.specs.declared.Rounding.the-variants.{Down, Up}
 use Rattle.line.specs.declared.Past.{Past}
 use Rattle.line.specs.declared.Said.{Said}
-use Rattle.line.specs.declared.Said.the-variants.{Cpus, Task as TaskLine, Use, Not}
+use Rattle.line.specs.declared.Said.the-variants.{Cpus, Task as TaskLine, Alpha, Use, Not}
 use Rattle.line.specs.Fields.{form}
 use Rattle.line.specs.Line.{countIn, timeIn}
 use Rattle.line.proofs.StatedLaws.{IsRead}
@@ -33,6 +34,12 @@ pub record TaskRules (past : Past) (f g h : Field) (T C D : ℕ) : Type 0 where
   pub room : past .tasks < maxTasks
   pub times : GoodTimes T C D
 
+pub record AlphaRules (past : Past) (f : Field) (A : ℕ) : Type 0 where
+  pub field : IsRead f A
+  pub least : 1 ≤ A
+  pub most : A ≤ maxAlpha
+  pub follows : mayFollow (past .alpha) A ≡ true
+
 pub record UseRules (past : Past) (f g h i : Field) (K : Resource) (p : Pair) : Type 0 where
   pub resource : IsRead f (K .0)
   pub requests : IsRead g (p .requests)
@@ -49,6 +56,7 @@ pub data Line (past : Past) (n : ℕ) (s : List ℕ) : Said → Type 0 where
   is-cpus : {M : ℕ} → form (bytes "cpus") 2 s ≡ true → n ≡ 1 → CpusRules (countIn s 1) M → Line past n s (Cpus M)
   is-task : {T C D : ℕ} → form (bytes "task") 4 s ≡ true → 1 < n → TaskRules past (timeIn Down s 1) (timeIn Up s 2) (timeIn Down s 3) T C D
       → Line past n s (TaskLine T C D)
+  is-alpha : {A : ℕ} → form (bytes "alpha") 2 s ≡ true → past .fresh ≡ true → AlphaRules past (countIn s 1) A → Line past n s (Alpha A)
   is-use : {K : Resource} {p : Pair} → form (bytes "use") 5 s ≡ true → 0 < past .tasks
       → UseRules past (countIn s 1) (countIn s 2) (timeIn Up s 3) (timeIn Up s 4) K p → Line past n s (Use K p)
   is-not : (r : Refusal) → Line past n s (Not r)

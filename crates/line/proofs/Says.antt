@@ -4,8 +4,8 @@ use Prim.Native.Nat.{ℕ, _+_}
 use mathlib.Core.Path.{_≡_, refl}
 use mathlib.Core.Bool.{Bool, true, false, _&&_}
 use mathlib.Core.List.{List}
-use borrow.Author.Tests.{eqb-true, ltb-true}
-use lib.Dec.{ltb, eqb}
+use borrow.Author.Tests.{eqb-true, ltb-true, leb-true}
+use lib.Dec.{ltb, leb, eqb}
 use Rattle.basics.specs.Choice.{pick, within}
 use Rattle.basics.specs.Text.{bytes}
 use Rattle.basics.proofs.ChoiceLaws.{and-true, within-true}
@@ -17,17 +17,18 @@ use Rattle.table.specs.declared.Checked.{Checked}
 use Rattle.table.specs.declared.Checked.the-variants.{Fine, Refused}
 use Rattle.table.specs.Limits.{maxCpus, maxTasks, maxResources}
 use Rattle.table.specs.Faults.{_then_, unless}
-use Rattle.table.specs.Rules.{timesFault, usedInRange, totalsFit}
+use Rattle.table.specs.Rules.{timesFault, alphaFault, usedInRange, totalsFit}
 use Rattle.table.proofs.FirstLaws.{then-fine}
 use Rattle.table.proofs.RuleLaws.{unless-fine, times-good, used-good}
+use Rattle.table.proofs.Acceptance.{alpha-good}
 use Rattle.field.specs.declared.Field.{Field}
 use Rattle.line.specs.declared.Past.{Past}
 use Rattle.line.specs.declared.Said.{Said}
-use Rattle.line.specs.declared.Said.the-variants.{Cpus, Task as TaskLine, Use, Not}
+use Rattle.line.specs.declared.Said.the-variants.{Cpus, Task as TaskLine, Alpha, Use, Not}
 use Rattle.line.specs.Fields.{form}
-use Rattle.line.specs.Line.{formed, value, _gives_, cpusLine, taskLine, useLine, lineSays}
+use Rattle.line.specs.Line.{formed, value, _gives_, cpusLine, taskLine, alphaLine, useLine, lineSays}
 use Rattle.line.proofs.StatedLaws.{formed-states}
-use Rattle.line.proofs.LineRules.{CpusRules, TaskRules, UseRules, Line, is-cpus, is-task, is-use, is-not}
+use Rattle.line.proofs.LineRules.{CpusRules, TaskRules, AlphaRules, UseRules, Line, is-cpus, is-task, is-alpha, is-use, is-not}
 
 -- ---- from what is said to the rules
 
@@ -66,6 +67,23 @@ task-rules past n f g h P holds fails = given _ _ P go fails
           deadline = formed-states h (d .1);
           room = ltb-true _ _ (unless-fine _ TooManyTasks n (b .0));
           times = times-good n _ _ _ (b .1);
+        })
+
+alpha-rules : (past : Past) (n : ℕ) (f : Field) (P : Said → Type 0) → (AlphaRules past f (value f) → P (Alpha (value f))) → ((r : Refusal) → P (Not r)) → P (alphaLine past n f)
+unfolding alphaLine
+alpha-rules past n f P holds fails = given _ _ P go fails
+  where
+    go : (unless (formed f) BadField n then unless (leb 1 (value f)) OutOfRange n then alphaFault n (past .alpha) (value f)) ≡ Fine → P (Alpha (value f))
+    go e =
+        let a = then-fine (unless (formed f) BadField n) _ e in
+        let b = then-fine (unless (leb 1 (value f)) OutOfRange n) _ (a .1) in
+        let g = alpha-good n (past .alpha) (value f) (b .1) in
+        holds
+        (record {
+          field = formed-states f (unless-fine _ BadField n (a .0));
+          least = leb-true _ _ (unless-fine _ OutOfRange n (b .0));
+          most = g .0;
+          follows = g .1;
         })
 
 use-rules : (past : Past) (n : ℕ) (f g h i : Field) (P : Said → Type 0)
@@ -116,4 +134,5 @@ unfolding lineSays
 line-is past n s =
     chosen (form (bytes "cpus") 2 s) (eqb n 1) _ _ (Line past n s) (λ f e. cpus-rules n _ (Line past n s) (is-cpus f (eqb-true n 1 e)) is-not)
     (chosen (form (bytes "task") 4 s) (ltb 1 n) _ _ (Line past n s) (λ f e. task-rules past n _ _ _ (Line past n s) (is-task f (ltb-true 1 n e)) is-not)
-    (chosen (form (bytes "use") 5 s) (ltb 0 (past .tasks)) _ _ (Line past n s) (λ f e. use-rules past n _ _ _ _ (Line past n s) (is-use f (ltb-true 0 _ e)) is-not) (is-not _)))
+    (chosen (form (bytes "alpha") 2 s) (past .fresh) _ _ (Line past n s) (λ f e. alpha-rules past n _ (Line past n s) (is-alpha f e) is-not)
+    (chosen (form (bytes "use") 5 s) (ltb 0 (past .tasks)) _ _ (Line past n s) (λ f e. use-rules past n _ _ _ _ (Line past n s) (is-use f (ltb-true 0 _ e)) is-not) (is-not _))))

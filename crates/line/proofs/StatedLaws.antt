@@ -70,5 +70,8 @@ cpus-word = alone-field refl (omega arith)
 pub task-word : IsField (bytes "task")
 task-word = alone-field refl (omega arith)
 
+pub alpha-word : IsField (bytes "alpha")
+alpha-word = alone-field refl (omega arith)
+
 pub use-word : IsField (bytes "use")
 use-word = alone-field refl (omega arith)

@@ -1,9 +1,9 @@
--- Document 01, "The listing" and "Refusals by number": what a line says, or its first refusal. How its times are rounded: document 02, 1/12.
+-- Document 01, "The listing" and "Refusals by number": what a line says, or its first refusal. How its times are rounded: document 02, 1/12; `alpha`: 8/12.
 use Prim.Native.Nat.{ℕ, _+_}
 use mathlib.Core.Bool.{Bool, true, false, _&&_}
 use mathlib.Core.List.{List, []}
 use lib.ListN.{getD}
-use lib.Dec.{ltb, eqb}
+use lib.Dec.{ltb, leb, eqb}
 use Rattle.basics.specs.Choice.{pick, within}
 use Rattle.basics.specs.Text.{bytes}
 use Rattle.table.specs.declared.Pair.{Pair}
@@ -12,7 +12,7 @@ use Rattle.table.specs.declared.Checked.{Checked}
 use Rattle.table.specs.declared.Checked.the-variants.{Fine, Refused}
 use Rattle.table.specs.Limits.{maxCpus, maxTasks, maxResources}
 use Rattle.table.specs.Faults.{_then_, unless}
-use Rattle.table.specs.Rules.{timesFault, usedInRange, totalsFit}
+use Rattle.table.specs.Rules.{timesFault, alphaFault, usedInRange, totalsFit}
 use Rattle.field.specs.declared.Field.{Field}
 use Rattle.field.specs.declared.Field.the-variants.{Value, Bad}
 use Rattle.field.specs.declared.Rounding.{Rounding}
@@ -20,10 +20,10 @@ use Rattle.field.specs.declared.Rounding.the-variants.{Down, Up}
 use Rattle.field.specs.Number.{timeField, countField}
 use Rattle.line.specs.declared.Past.{Past}
 use Rattle.line.specs.declared.Said.{Said}
-use Rattle.line.specs.declared.Said.the-variants.{Cpus, Task as TaskLine, Use, Not}
+use Rattle.line.specs.declared.Said.the-variants.{Cpus, Task as TaskLine, Alpha, Use, Not}
 use Rattle.line.specs.Fields.{fields, form}
 
--- ---- a line: the rules in the paper's order, 2, 3, 8, 4, 5, 6, 7
+-- ---- a line: the rules in the paper's order, 2, 3, 8, 4, 5, 6, 7, and of `alpha` 2, 3, 4, 18
 
 -- whether a field is well formed, and its number
 abbrev pub formed : Field → Bool
@@ -54,6 +54,13 @@ taskLine past n T C D =
     unless (ltb (past .tasks) maxTasks) TooManyTasks n then timesFault n (value T) (value C) (value D))
     gives TaskLine (value T) (value C) (value D)
 
+-- line n, `alpha A`: "A a count field from 1 to 64"; "18, alpha above that of the last task before with one, after 4 at its line"
+unfoldable pub alphaLine : Past → ℕ → Field → Said
+alphaLine past n A =
+    (unless (formed A) BadField n then
+    unless (leb 1 (value A)) OutOfRange n then alphaFault n (past .alpha) (value A))
+    gives Alpha (value A)
+
 -- line n, `use K N c CT`
 unfoldable pub useLine : Past → ℕ → Field → Field → Field → Field → Said
 useLine past n K N c CT =
@@ -71,11 +78,12 @@ countIn s i = countField (getD (fields s) i [])
 abbrev pub timeIn : Rounding → List ℕ → ℕ → Field
 timeIn way s i = timeField way (getD (fields s) i [])
 
--- line n: `cpus` first and only there, `use` after a task; else it is "not of its form or place" (2).
+-- line n: `cpus` first and only there, `alpha` "right after a task line", `use` after a task; else it is "not of its form or place" (2).
 -- "A run time, longest request or total (C, c, CT) is rounded up to the microsecond; a period or deadline (T, D) is rounded down."
 unfoldable pub lineSays : Past → ℕ → List ℕ → Said
 lineSays past n s =
     pick (form (bytes "cpus") 2 s && eqb n 1) (cpusLine n (countIn s 1))
     (pick (form (bytes "task") 4 s && ltb 1 n) (taskLine past n (timeIn Down s 1) (timeIn Up s 2) (timeIn Down s 3))
+    (pick (form (bytes "alpha") 2 s && past .fresh) (alphaLine past n (countIn s 1))
     (pick (form (bytes "use") 5 s && ltb 0 (past .tasks)) (useLine past n (countIn s 1) (countIn s 2) (timeIn Up s 3) (timeIn Up s 4))
-    (Not (record { fault = BadForm; place = n }))))
+    (Not (record { fault = BadForm; place = n })))))

@@ -1,11 +1,12 @@
--- Document 01, "Refusals by number", of one line, said a second way: the number that it calls for, after what the lines before it leave. `Line` says it by tests in a
+-- Document 01, "Refusals by number", and request 8/12 of document 02, of one line, said a second way: the number that it calls for, after what the lines before it leave. `Line` says it by tests in a
 -- chain that the first fault ends; here each case stands by itself, in the paper's order, over the words of the line and the figures that they state.
 use Prim.Native.Nat.{ℕ, _+_, _≤_, _<_}
 use mathlib.Core.Path.{_≡_}
+use mathlib.Core.Bool.{true}
 use mathlib.Core.List.{List, [], _∷_}
 use Rattle.basics.specs.Exactly.{_exactly-if_}
 use Rattle.table.specs.declared.Refusal.{Refusal}
-use Rattle.table.specs.Limits.{maxCpus, maxTasks, maxResources}
+use Rattle.table.specs.Limits.{maxCpus, maxTasks, maxResources, maxAlpha}
 use Rattle.table.specs.Faults.{Told}
 use Rattle.table.specs.Refusals.{InRange, TimesInRange, TimesInOrder, UsedInRange, TotalsFit}
 use Rattle.field.specs.Spelling.{Time, StatesCount}
@@ -34,6 +35,13 @@ pub data TaskLineCalls (past : Past) (t c d : List ℕ) : ℕ → Type 0 where
   bad-times : {T C D : Time} → StatesTask t c d T C D → past .tasks < maxTasks → TimesInRange (T .held) (C .held) (D .held)
       → (TimesInOrder (T .held) (C .held) (D .held) → ⊥) → TaskLineCalls past t c d 5
 
+-- `alpha A`
+pub data AlphaLineCalls (past : Past) (a : List ℕ) : ℕ → Type 0 where
+  bad-field : ((A : ℕ) → StatesCount a A → ⊥) → AlphaLineCalls past a 3
+  out-of-range : {A : ℕ} → StatesCount a A → (InRange 1 maxAlpha A → ⊥) → AlphaLineCalls past a 4
+  -- "alpha above that of the last task before with one"
+  alpha-rises : {A : ℕ} → StatesCount a A → InRange 1 maxAlpha A → 1 ≤ past .alpha → past .alpha < A → AlphaLineCalls past a 18
+
 -- `use K N c CT`
 pub data UseLineCalls (past : Past) (k n c ct : List ℕ) : ℕ → Type 0 where
   bad-field : ((u : UseFigures) → StatesUse k n c ct u → ⊥) → UseLineCalls past k n c ct 3
@@ -44,15 +52,17 @@ pub data UseLineCalls (past : Past) (k n c ct : List ℕ) : ℕ → Type 0 where
   bad-totals : {u : UseFigures} → StatesUse k n c ct u → InRange 1 maxResources (u .K) → UsedInRange (heldPair u) → past .last .0 < u .K
       → (TotalsFit (heldPair u) (past .sum + u .CT .held) (past .run) → ⊥) → UseLineCalls past k n c ct 7
 
--- ---- line n, after what the lines before it leave: `cpus` first and only there, `use` after a task
+-- ---- line n, after what the lines before it leave: `cpus` first and only there, `alpha` right after a task line, `use` after a task
 
 pub data LineCallsFor (past : Past) (n : ℕ) (s : List ℕ) : ℕ → Type 0 where
   -- "line not of its form or place"
   bad-form : (n ≡ 1 → (m : List ℕ) → IsLine "cpus" (m ∷ []) s → ⊥)
       → (1 < n → (t c d : List ℕ) → IsLine "task" (t ∷ c ∷ d ∷ []) s → ⊥)
+      → (past .fresh ≡ true → (a : List ℕ) → IsLine "alpha" (a ∷ []) s → ⊥)
       → (1 ≤ past .tasks → (k r c ct : List ℕ) → IsLine "use" (k ∷ r ∷ c ∷ ct ∷ []) s → ⊥) → LineCallsFor past n s 2
   of-cpus : {m : List ℕ} {number : ℕ} → n ≡ 1 → IsLine "cpus" (m ∷ []) s → CpusLineCalls m number → LineCallsFor past n s number
   of-task : {t c d : List ℕ} {number : ℕ} → 1 < n → IsLine "task" (t ∷ c ∷ d ∷ []) s → TaskLineCalls past t c d number → LineCallsFor past n s number
+  of-alpha : {a : List ℕ} {number : ℕ} → past .fresh ≡ true → IsLine "alpha" (a ∷ []) s → AlphaLineCalls past a number → LineCallsFor past n s number
   of-use : {k r c ct : List ℕ} {number : ℕ} → 1 ≤ past .tasks → IsLine "use" (k ∷ r ∷ c ∷ ct ∷ []) s → UseLineCalls past k r c ct number
       → LineCallsFor past n s number
 

@@ -14,7 +14,7 @@ ghost use Rattle.field.specs.declared.Rounding.the-variants.{Down, Up};
 ghost use Rattle.line.specs.declared.Said.the-variants.{Not};
 ghost use Rattle.line.specs.Fields.{fieldCount, same, form};
 ghost use Rattle.line.specs.Places.{fieldAs, placed};
-ghost use Rattle.line.specs.Line.{countIn, timeIn, cpusLine, taskLine, useLine, lineSays};
+ghost use Rattle.line.specs.Line.{countIn, timeIn, cpusLine, taskLine, alphaLine, useLine, lineSays};
 use field::Field;
 use field::Rounding;
 use table::Checked;
@@ -26,19 +26,24 @@ use table::Table;
 
 const RESOURCES: u32 = Table::MAX_RESOURCES as u32;
 
-// What the lines so far leave for the next one to be judged by: the tasks so far; and of the last of them its C, the K of its last
-// `use` line (0: none), and the sum of its CT.
+// What the lines so far leave for the next one to be judged by: the tasks so far; of the last of them its C, the K of its last
+// `use` line (0: none), and the sum of its CT; how many of the tasks have an alpha, and the last of these (0: none); and whether
+// the last task is fresh, no line standing after its own.
 pub struct Past {
     pub tasks: usize,
     pub run: u32,
     pub last: Resource,
     pub sum: u32,
+    pub alphas: usize,
+    pub alpha: u32,
+    pub fresh: bool,
 }
 
 // What a line says, or why it is refused.
 pub enum Said {
     Cpus(u32),
     Task(u32, u32, u32),
+    Alpha(u32),
     Use(Resource, Pair),
     Not(Refusal),
 }
@@ -180,6 +185,19 @@ fn task_said(past: Past, number: u32, period: u32, run: u32, deadline: u32) -> S
     Said::Task(period, run, deadline)
 }
 
+// 4, then 18, of an alpha.
+fn alpha_said(past: Past, number: u32, alpha: u32) -> Said
+    ensures { λ r. ⌜ r ≡ alphaLine past number (Value alpha 0) ⌝ }
+{
+    if alpha < 1 {
+        return refuse(Fault::OutOfRange, number);
+    }
+    if let Checked::Refused(r) = rules::alpha(number, past.alpha, alpha) {
+        return Said::Not(r);
+    }
+    Said::Alpha(alpha)
+}
+
 // 4, 6, then 7, of a pair in use.
 fn use_said(past: Past, number: u32, k: Resource, p: Pair) -> Said
     ensures { λ r. ⌜ r ≡ useLine past number (Value (k .0) 0) (Value (p .requests) 0) (Value (p .longest) 0) (Value (p .total) 0) ⌝ }
@@ -225,6 +243,17 @@ fn task_line(past: Past, number: u32, line: &[u8]) -> Said
         return refuse(Fault::BadField, number);
     };
     task_said(past, number, period, run, deadline)
+}
+
+// `alpha A`.
+fn alpha_line(past: Past, number: u32, line: &[u8]) -> Said
+    requires { ⌜ form (bytes "alpha") 2 (now line) ≡ true ⌝ }
+    ensures { λ r. ⌜ r ≡ alphaLine past number (countIn (now (line .entry)) 1) ⌝ }
+{
+    let FieldAt::Number(alpha, _) = field_at(line, 6, FieldKind::Count) else {
+        return refuse(Fault::BadField, number);
+    };
+    alpha_said(past, number, alpha)
 }
 
 // `use K N c CT`.
@@ -277,6 +306,17 @@ fn task_here(line: &[u8], n: usize, number: u32) -> bool
     1 < number
 }
 
+// `alpha` stands right after its task's line.
+fn alpha_here(line: &[u8], n: usize, fresh: bool) -> bool
+    requires { ⌜ n ≡ fieldCount (now line) ⌝ }
+    ensures { λ r. ⌜ r ≡ (form (bytes "alpha") 2 (now (line .entry)) && fresh) ⌝ }
+{
+    if !is_form(line, n, b"alpha", 2) {
+        return false;
+    }
+    fresh
+}
+
 // `use` stands after a task.
 fn use_here(line: &[u8], n: usize, tasks: usize) -> bool
     requires { ⌜ n ≡ fieldCount (now line) ⌝ }
@@ -298,6 +338,9 @@ pub fn line_of(past: Past, number: u32, line: &[u8]) -> Said
     }
     if task_here(line, n, number) {
         return task_line(past, number, line);
+    }
+    if alpha_here(line, n, past.fresh) {
+        return alpha_line(past, number, line);
     }
     if use_here(line, n, past.tasks) {
         return use_line(past, number, line);

@@ -35,20 +35,35 @@ returns-2 c =
     let b = c .before .before in
     rw (not-cpus (b .before), sym (b .task-here .ensures) ∙ c .before .if2 .taken) (c .task-line .ensures)
 
-use-line-requires : tie.Need-use-line-requires
-use-line-requires c κs = and-true (form (bytes "use") 5 _) _ (sym (c .before .use-here .ensures) ∙ c .if3 .taken) .0
+not-alpha : (c : tie.Else3) → let a = c .before .before .before .before .before .before .before .before .args in
+    (form (bytes "alpha") 2 (a .line .now) && a .past .fresh) ≡ false
+not-alpha c = sym (c .before .alpha-here .ensures) ∙ c .if3 .left
+
+alpha-line-requires : tie.Need-alpha-line-requires
+alpha-line-requires c κs = and-true (form (bytes "alpha") 2 _) _ (sym (c .before .alpha-here .ensures) ∙ c .if3 .taken) .0
 
 returns-3 : tie.Need-returns-3
 unfolding lineSays
 returns-3 c =
     let b = c .before .before in
-    rw (not-cpus (b .before .before .before), not-task (b .before), sym (b .use-here .ensures) ∙ c .before .if3 .taken) (c .use-line .ensures)
+    rw (not-cpus (b .before .before .before), not-task (b .before), sym (b .alpha-here .ensures) ∙ c .before .if3 .taken) (c .alpha-line .ensures)
+
+use-line-requires : tie.Need-use-line-requires
+use-line-requires c κs = and-true (form (bytes "use") 5 _) _ (sym (c .before .use-here .ensures) ∙ c .if4 .taken) .0
 
 returns-4 : tie.Need-returns-4
 unfolding lineSays
 returns-4 c =
     let b = c .before .before in
-    rw (not-cpus (b .before .before .before), not-task (b .before), sym (b .use-here .ensures) ∙ c .before .if3 .left) (c .refuse .ensures)
+    let a = b .before in
+    rw (not-cpus (a .before .before .before .before), not-task (a .before .before), not-alpha a, sym (b .use-here .ensures) ∙ c .before .if4 .taken) (c .use-line .ensures)
+
+returns-5 : tie.Need-returns-5
+unfolding lineSays
+returns-5 c =
+    let b = c .before .before in
+    let a = b .before in
+    rw (not-cpus (a .before .before .before .before), not-task (a .before .before), not-alpha a, sym (b .use-here .ensures) ∙ c .before .if4 .left) (c .refuse .ensures)
 
 pub line-of-spec : {M : Type 1} → statement M
 line-of-spec =
@@ -62,6 +77,10 @@ line-of-spec =
     task-line-requires
     returns-2
     (λ c κs. search needs)
-    use-line-requires
+    alpha-line-requires
     returns-3
-    (λ c κs. search needs) returns-4)
+    (λ c κs. search needs)
+    use-line-requires
+    returns-4
+    (λ c κs. search needs)
+    returns-5)
