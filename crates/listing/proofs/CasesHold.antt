@@ -1,13 +1,13 @@
 -- Assumes nothing.
 use mathlib.Core.Path.{refl}
 use Rattle.table.specs.Empty.{emptyTask, emptyTable}
-use Rattle.table.specs.Rules.{timesInRange, timesInOrder, timesFault, usedInRange, totalsFit}
+use Rattle.table.specs.Rules.{timesInRange, timesInOrder, timesFault, alphaFault, usedInRange, totalsFit}
 use Rattle.field.specs.Number.{rounded, fraction, timeField, countField}
 use Rattle.line.specs.Fields.{fieldCount}
-use Rattle.line.specs.Line.{cpusLine, taskLine, useLine, lineSays}
+use Rattle.line.specs.Line.{cpusLine, taskLine, alphaLine, useLine, lineSays}
 use Rattle.listing.specs.Read.{pastAfter, newTask, tableAfter, readEnd, readLines, readListing}
-use Rattle.listing.specs.ReadCases.{cases, tableA, tableR, CasesHold}
+use Rattle.listing.specs.ReadCases.{cases, tableA, tableR, tableP, CasesHold}
 
 pub cases-hold : CasesHold
-unfolding cases tableA tableR emptyTask emptyTable timesInRange timesInOrder timesFault usedInRange totalsFit rounded fraction timeField countField fieldCount cpusLine taskLine useLine lineSays pastAfter newTask tableAfter readEnd readLines readListing
-cases-hold = (refl, refl, refl, refl, refl)
+unfolding cases tableA tableR tableP emptyTask emptyTable timesInRange timesInOrder timesFault alphaFault usedInRange totalsFit rounded fraction timeField countField fieldCount cpusLine taskLine alphaLine useLine lineSays pastAfter newTask tableAfter readEnd readLines readListing
+cases-hold = (refl, refl, refl, refl, refl, refl)

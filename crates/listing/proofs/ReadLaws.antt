@@ -3,7 +3,7 @@
 -- Assumes nothing.
 use Prim.Native.Nat.{ℕ, suc, _+_, _-_, _≤_, _<_}
 use mathlib.Core.Path.{_≡_, sym, ap, _∙_}
-use mathlib.Core.Bool.{true}
+use mathlib.Core.Bool.{true, true≢false}
 use mathlib.Core.List.{List}
 use native.Mathlib.Omega.{arith}
 use lib.ListN.{length, take, drop, drop-of-length-le, length-drop}
@@ -20,15 +20,15 @@ use Rattle.table.specs.Empty.{emptyTable}
 use Rattle.basics.proofs.FillLaws.{whole-part}
 use Rattle.line.specs.declared.Past.{Past}
 use Rattle.line.specs.declared.Said.{Said}
-use Rattle.line.specs.declared.Said.the-variants.{Task as TaskLine, Use, Not}
+use Rattle.line.specs.declared.Said.the-variants.{Task as TaskLine, Alpha, Use, Not}
 use Rattle.table.specs.declared.Reading.{Reading}
 use Rattle.listing.specs.Lines.{lines, endsInLF}
 use Rattle.listing.specs.FirstLine.{line}
 use Rattle.line.specs.Line.{lineSays}
 use Rattle.table.specs.Answers.{refused}
-use Rattle.listing.specs.Read.{fresh, pastAfter, tableAfter, onSaid, readEnd, readLines, readListing}
+use Rattle.listing.specs.Read.{noLines, pastAfter, tableAfter, onSaid, readEnd, readLines, readListing}
 use Rattle.listing.proofs.LineLaws.{line-within, line-take, lines-more, lines-none, endsInLF-more, endsInLF-open}
-use Rattle.line.proofs.LineRules.{Line, is-cpus, is-task, is-use, is-not}
+use Rattle.line.proofs.LineRules.{Line, is-cpus, is-task, is-alpha, is-use, is-not}
 use Rattle.line.proofs.Says.{line-is}
 
 -- ---- what the lines so far leave
@@ -37,6 +37,9 @@ pub record PastOk (past : Past) : Type 0 where
   pub tasks-most : past .tasks ≤ maxTasks
   pub sum-run : past .sum ≤ past .run
   pub run-most : past .run ≤ maxTime
+  -- no more tasks have an alpha than there are, and a fresh one has none yet
+  pub alphas-most : past .alphas ≤ past .tasks
+  pub fresh-most : past .fresh ≡ true → past .alphas < past .tasks
 
 past-ok : (past : Past) (n : ℕ) (l : List ℕ) → PastOk past → PastOk (pastAfter past (lineSays past n l))
 unfolding pastAfter
@@ -44,8 +47,13 @@ past-ok past n l ok = go _ (line-is past n l)
   where
     go : (said : Said) → Line past n l said → PastOk (pastAfter past said)
     go _ (is-cpus f e r) = ok
-    go _ (is-task f e r) = record { tasks-most = omega arith; sum-run = omega arith; run-most = omega arith }
-    go _ (is-use f e r) = record { tasks-most = ok .tasks-most; sum-run = r .fits; run-most = ok .run-most }
+    go _ (is-task f e r) =
+        record { tasks-most = omega arith; sum-run = omega arith; run-most = omega arith; alphas-most = omega arith; fresh-most = λ h. omega arith }
+    go _ (is-alpha f e r) =
+        let h = ok .fresh-most e in
+        record { tasks-most = ok .tasks-most; sum-run = ok .sum-run; run-most = ok .run-most; alphas-most = omega arith; fresh-most = λ e. absurd (true≢false (sym e)) }
+    go _ (is-use f e r) =
+        record { tasks-most = ok .tasks-most; sum-run = r .fits; run-most = ok .run-most; alphas-most = ok .alphas-most; fresh-most = λ e. absurd (true≢false (sym e)) }
     go _ (is-not r) = ok
 
 -- ---- the reader's loop
@@ -62,13 +70,13 @@ pub record Left (s : List ℕ) (t : Table) (past : Past) (n at : ℕ) : Type 0 w
   pub reads : readFrom t past n (drop at s) ≡ readListing s
 
 -- a listing that is not too long is read from its start
-pub left-start : (s : List ℕ) (t : Table) → length s ≤ maxListing → t ≡ emptyTable → Left s t (fresh 0 0) 1 0
+pub left-start : (s : List ℕ) (t : Table) → length s ≤ maxListing → t ≡ emptyTable → Left s t noLines 1 0
 unfolding readListing
 left-start s t h e =
     record {
       few = omega arith;
       within = omega arith;
-      ok = record { tasks-most = omega arith; sum-run = omega arith; run-most = omega arith };
+      ok = record { tasks-most = omega arith; sum-run = omega arith; run-most = omega arith; alphas-most = omega arith; fresh-most = λ e. absurd (true≢false (sym e)) };
       reads = rw (e, le-leb (length s) maxListing h);
     }
 
@@ -106,8 +114,8 @@ module _ {s : List ℕ} {t : Table} {past : Past} {n at k : ℕ} {said : Said} (
   next-past = rw (x .says) (past-ok past n _ (x .left .ok))
 
   -- the past that it leaves fits its numbers
-  pub next-fits : (pastAfter past said .tasks ≤ maxTasks) × (pastAfter past said .sum ≤ maxTime)
-  next-fits = (next-past .tasks-most, omega (arith, next-past))
+  pub next-fits : (pastAfter past said .tasks ≤ maxTasks) × (pastAfter past said .sum ≤ maxTime) × (pastAfter past said .alphas ≤ maxTasks)
+  next-fits = (next-past .tasks-most, omega (arith, next-past), omega (arith, next-past))
 
   pub next-line : {y : Said} → said ≡ y → Line past n (take (at + k - at) (drop at s)) y
   next-line e = rw (sym e ∙ x .says) (line-is past n _)
@@ -139,6 +147,10 @@ module _ {s : List ℕ} {t : Table} {past : Past} {n at k : ℕ} {said : Said} (
 -- what a task line and a `use` line owe to the lines before them, and to the resource
 pub task-room : {past : Past} {n : ℕ} {l : List ℕ} {T C D : ℕ} → Line past n l (TaskLine T C D) → past .tasks < maxTasks
 task-room (is-task f e r) = r .room
+
+-- an `alpha` line stands after a task
+pub alpha-task : {past : Past} {n : ℕ} {l : List ℕ} {A : ℕ} → PastOk past → Line past n l (Alpha A) → 0 < past .tasks
+alpha-task ok (is-alpha f e r) = omega (arith, ok .fresh-most e)
 
 pub use-task : {past : Past} {n : ℕ} {l : List ℕ} {K : Resource} {p : Pair} → Line past n l (Use K p) → 0 < past .tasks
 use-task (is-use f e r) = e

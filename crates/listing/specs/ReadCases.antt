@@ -7,11 +7,11 @@ use lib.ListN.{replicate}
 use Rattle.basics.specs.Text.{bytes}
 use Rattle.table.specs.declared.Table.{Table}
 use Rattle.table.specs.declared.Fault.{Fault}
-use Rattle.table.specs.declared.Fault.the-variants.{TooLong, BadForm, BadField, OutOfRange, BadTimes, NotRising, BadTotals, TooManyTasks, NoTask}
+use Rattle.table.specs.declared.Fault.the-variants.{TooLong, BadForm, BadField, OutOfRange, BadTimes, NotRising, BadTotals, TooManyTasks, NoTask, AlphaMissing, AlphaRises}
 use Rattle.table.specs.declared.Checked.{Checked}
 use Rattle.table.specs.declared.Checked.the-variants.{Fine}
 use Rattle.table.specs.Empty.{unusedPair, emptyTask}
-use Rattle.table.specs.At.{aPair, aTask}
+use Rattle.table.specs.At.{aPair, aTask, withAlpha}
 use Rattle.table.specs.Faults.{at}
 use Rattle.table.specs.Answers.{accepted, refused}
 use Rattle.listing.specs.Read.{readListing, newTask}
@@ -125,6 +125,31 @@ cases =
     ∷ bad (using5 "use 1 2 0.5 1.0001\n") BadTotals 3
     -- they fit as typed; each is rounded up by itself
     ∷ bad "cpus 2\ntask 10 1 10\nuse 1 1 0.5001 0.5001\nuse 2 1 0.4999 0.4999\n" BadTotals 4
+    -- alpha (document 02, 8/12), right after its task line, for all tasks or none, never rising; leading zeros
+    ∷ fine (using5 "alpha 0064\nuse 1 1 1 1\ntask 10 5 10\nalpha 64\ntask 10 5 10\nalpha 1\n")
+    -- not right after a task line: before any, a second one, after a `use`; fields: too few, too many, an empty one; another word
+    ∷ bad "alpha 1\n" BadForm 1
+    ∷ bad "cpus 2\nalpha 1\n" BadForm 2
+    ∷ bad (using5 "alpha 2\nalpha 2\n") BadForm 4
+    ∷ bad (using5 "use 1 1 1 1\nalpha 2\n") BadForm 4
+    ∷ bad (using5 "alpha\n") BadForm 3
+    ∷ bad (using5 "alpha 1 1\n") BadForm 3
+    ∷ bad (using5 "alpha \n") BadForm 3
+    ∷ bad (using5 "Alpha 1\n") BadForm 3
+    -- badly formed; out of range, before 18
+    ∷ bad (using5 "alpha 00064\n") BadField 3
+    ∷ bad (using5 "alpha 1.5\n") BadField 3
+    ∷ bad (using5 "alpha 0\n") OutOfRange 3
+    ∷ bad (using5 "alpha 65\n") OutOfRange 3
+    ∷ bad (using5 "alpha 2\ntask 10 5 10\nalpha 65\n") OutOfRange 5
+    -- 18: above the last before with one, be it not the task just before; 17 is then never reached
+    ∷ bad (using5 "alpha 2\ntask 10 5 10\nalpha 3\n") AlphaRises 5
+    ∷ bad (using5 "alpha 2\ntask 10 5 10\ntask 10 5 10\nalpha 3\n") AlphaRises 6
+    ∷ bad (using5 "alpha 9\ntask 10 5 10\nalpha 2\ntask 10 5 10\nalpha 3\n") AlphaRises 7
+    -- 17, at the end and without a line; what is refused in a line comes before it, and so does 9
+    ∷ bad (using5 "alpha 2\ntask 10 5 10\n") AlphaMissing 0
+    ∷ bad (using5 "task 10 5 10\nalpha 2\n") AlphaMissing 0
+    ∷ bad (using5 "alpha 2\ntask 10 5 10\nuse 0 1 1 1\n") OutOfRange 5
     -- of two faulty lines the first
     ∷ bad "cpus 2\ntask 10 9 8\nuse 0 x\n" BadTimes 2
     ∷ []
@@ -151,11 +176,24 @@ tableR =
       tasks = aTask 2_500 2_500 2_500 (aPair 2 500 1_000 ∷ replicate 15 unusedPair) ∷ replicate 31 emptyTask;
     }
 
+-- two tasks with alpha, the second with a lock
+unfoldable pub tableP : Table
+tableP =
+    record {
+      cpus = 2;
+      n = 2;
+      tasks =
+          withAlpha 3 (newTask 10_000 5_000 10_000)
+          ∷ withAlpha 2 (aTask 10_000 5_000 10_000 (aPair 1 1_000 1_000 ∷ replicate 15 unusedPair))
+          ∷ replicate 30 emptyTask;
+    }
+
 abbrev pub CasesHold : Type 0
 CasesHold =
     (map (λ (c : Case). readListing (bytes (c .text)) .answer) cases ≡ map (λ (c : Case). c .answer) cases)
     × (readListing (bytes caseA) ≡ accepted tableA)
     × (readListing (bytes "cpus 1\ntask 2.5009 2.499001 2.500001\nuse 1 2 0.4999 0.9995\n") ≡ accepted tableR)
+    × (readListing (bytes (using5 "alpha 3\ntask 10 5 10\nalpha 2\nuse 1 1 1 1\n")) ≡ accepted tableP)
     -- as many LF as a listing may have bytes, and one more
     × (readListing (replicate 65_536 10) ≡ refused BadForm 1)
     × (readListing (replicate 65_537 10) ≡ refused TooLong 0)

@@ -4,6 +4,7 @@ ghost use mathlib.Core.Bool.{true};
 ghost use Prim.Native.Nat.{_-_, _≤_};
 ghost use lib.ListN.{length};
 ghost use Rattle.table.specs.Limits.{maxTasks, maxResources, maxTime, maxListing};
+ghost use Rattle.table.specs.At.{withAlpha};
 ghost use Rattle.table.specs.Answers.{refused};
 ghost use Rattle.listing.specs.FirstLine.{line};
 ghost use Rattle.listing.specs.Read.{newTask, pastAfter, withPair, readEnd, readListing};
@@ -20,7 +21,7 @@ use table::Task;
 
 // What a line leaves for the next one to be judged by.
 fn after(past: Past, said: Said) -> Past
-    requires { ⌜ (pastAfter past said .tasks ≤ maxTasks) × (pastAfter past said .sum ≤ maxTime) ⌝ }
+    requires { ⌜ (pastAfter past said .tasks ≤ maxTasks) × (pastAfter past said .sum ≤ maxTime) × (pastAfter past said .alphas ≤ maxTasks) ⌝ }
     ensures { λ r. ⌜ r ≡ pastAfter past said ⌝ }
 {
     match said {
@@ -30,18 +31,36 @@ fn after(past: Past, said: Said) -> Past
             run,
             last: Resource(0),
             sum: 0,
+            alphas: past.alphas,
+            alpha: past.alpha,
+            fresh: true,
         },
+        Said::Alpha(alpha) => {
+            let last = past.last;
+            Past {
+                tasks: past.tasks,
+                run: past.run,
+                last,
+                sum: past.sum,
+                alphas: past.alphas + 1,
+                alpha,
+                fresh: false,
+            }
+        }
         Said::Use(last, p) => Past {
             tasks: past.tasks,
             run: past.run,
             last,
             sum: past.sum + p.total,
+            alphas: past.alphas,
+            alpha: past.alpha,
+            fresh: false,
         },
         Said::Not(_) => past,
     }
 }
 
-// A task that uses no resource yet.
+// A task that has no alpha and uses no resource yet.
 fn new_task(period: u32, run: u32, deadline: u32) -> Task
     ensures { λ r. ⌜ r ≡ newTask period run deadline ⌝ }
 {
@@ -54,6 +73,7 @@ fn new_task(period: u32, run: u32, deadline: u32) -> Task
         period,
         run,
         deadline,
+        alpha: 0,
         pairs,
     }
 }
@@ -81,6 +101,15 @@ fn line_len(s: &[u8]) -> usize
     i
 }
 
+// The task with this alpha.
+fn with_alpha(a: Task, alpha: u32) -> Task
+    ensures { λ r. ⌜ r ≡ withAlpha alpha a ⌝ }
+{
+    let mut x = a;
+    x.alpha = alpha;
+    x
+}
+
 // The task with this pair for resource k.
 fn with_pair(a: Task, k: Resource, p: Pair) -> Task
     requires { ⌜ (1 ≤ k .0) × (k .0 ≤ maxResources) ⌝ }
@@ -102,6 +131,9 @@ fn at_end(table: Table, past: Past, number: u32) -> Reading
     if past.tasks < 1 {
         return refuse(Fault::NoTask, 2);
     }
+    if !rules::all_or_none(past.alphas, past.tasks) {
+        return refuse(Fault::AlphaMissing, 0);
+    }
     Reading {
         answer: Checked::Fine,
         table,
@@ -119,6 +151,9 @@ fn read_lines(listing: &[u8]) -> Reading
         run: 0,
         last: Resource(0),
         sum: 0,
+        alphas: 0,
+        alpha: 0,
+        fresh: false,
     };
     let mut number: u32 = 1;
     let mut at: usize = 0;
@@ -139,6 +174,11 @@ fn read_lines(listing: &[u8]) -> Reading
             Said::Task(period, run, deadline) => {
                 table.tasks[tasks] = new_task(period, run, deadline);
                 table.n = tasks + 1;
+            }
+            Said::Alpha(alpha) => {
+                let i = tasks - 1;
+                let x = table.tasks[i];
+                table.tasks[i] = with_alpha(x, alpha);
             }
             Said::Use(k, p) => {
                 let i = tasks - 1;

@@ -5,13 +5,17 @@ use Rattle.listing.specs.Read.{pastAfter}
 use Rattle.listing.proofs.after.Statement.{statement}
 use Rattle.listing.proofs.after.Tie as tie
 
-add-t7 : tie.Need-add-t7
-unfolding pastAfter
-add-t7 c = omega (arith, rw (c .before .before .said .given .1) at (c .before .before .before .before .pre .0))
-
 add-t9 : tie.Need-add-t9
 unfolding pastAfter
-add-t9 c = omega (arith, rw (c .before .before .before .said2 .given .1) at (c .before .before .before .before .before .pre .1))
+add-t9 c = omega (arith, rw (c .before .before .said .given .1) at (c .before .before .before .before .pre .0))
+
+add-t11 : tie.Need-add-t11
+unfolding pastAfter
+add-t11 c = omega (arith, rw (c .before .before .before .said2 .given .1) at (c .before .before .before .before .before .pre .2))
+
+add-t12 : tie.Need-add-t12
+unfolding pastAfter
+add-t12 c = omega (arith, rw (c .before .before .before .said3 .given .1) at (c .before .before .before .before .before .pre .1))
 
 returns : tie.Need-returns
 unfolding pastAfter
@@ -27,7 +31,11 @@ returns-3 c = rw (c .before .before .before .said2 .given .1)
 
 returns-4 : tie.Need-returns-4
 unfolding pastAfter
-returns-4 c = rw (c .enum-told2 .given .1)
+returns-4 c = rw (c .before .before .before .said3 .given .1)
+
+returns-5 : tie.Need-returns-5
+unfolding pastAfter
+returns-5 c = rw (c .enum-told2 .given .1)
 
 pub after-spec : {M : Type 1} → statement M
 after-spec =
@@ -35,11 +43,14 @@ after-spec =
     (tie.spec
     (λ c. search needs)
     (λ c. search needs)
-    add-t7
-    (λ c. search needs)
     add-t9
+    (λ c. search needs)
+    add-t11
+    (λ c. search needs)
+    add-t12
     (λ c. search needs)
     returns
     returns-2
     returns-3
-    returns-4)
+    returns-4
+    returns-5)

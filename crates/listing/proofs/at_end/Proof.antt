@@ -2,6 +2,7 @@
 use native.Mathlib.Omega.{arith}
 use borrow.Author.Needs.{needs}
 use borrow.Author.Tests.{le-ltb, lt-ltb}
+use Rattle.basics.proofs.ChoiceLaws.{stops, passes}
 use Rattle.listing.specs.Read.{readEnd}
 use Rattle.listing.proofs.at_end.Statement.{statement}
 use Rattle.listing.proofs.at_end.Tie as tie
@@ -19,8 +20,28 @@ returns-2 c =
 returns-3 : tie.Need-returns-3
 unfolding readEnd
 returns-3 c =
-    let b = c .before .before in
-    rw (lt-ltb 1 (b .before .args .number) (b .if1 .left), lt-ltb 0 (b .before .args .past .tasks) (omega arith))
+    let t = c .before .before in
+    let b = t .before .before .before in
+    let p = b .before .args .past in
+    rw (lt-ltb 1 (b .before .args .number) (b .if1 .left), lt-ltb 0 (p .tasks) (omega arith), stops (t .all-or-none .ensures) (c .before .if3 .taken)) (c .refuse3 .ensures)
+
+returns-4 : tie.Need-returns-4
+unfolding readEnd
+returns-4 c =
+    let t = c .before in
+    let b = t .before .before .before in
+    let p = b .before .args .past in
+    rw (lt-ltb 1 (b .before .args .number) (b .if1 .left), lt-ltb 0 (p .tasks) (omega arith), passes (t .all-or-none .ensures) (c .if3 .left))
 
 pub at-end-spec : {M : Type 1} → statement M
-at-end-spec = tie.close (tie.spec (λ c κs. search needs) returns (λ c κs. search needs) returns-2 returns-3)
+at-end-spec =
+    tie.close
+    (tie.spec
+    (λ c κs. search needs)
+    returns
+    (λ c κs. search needs)
+    returns-2
+    (λ c κs. search needs)
+    (λ c κs. search needs)
+    returns-3
+    returns-4)

@@ -6,7 +6,7 @@ use native.Mathlib.Omega.{arith}
 use borrow.Author.Needs.{needs}
 use lib.ListN.{length}
 use Rattle.listing.specs.Read.{tableAfter}
-use Rattle.listing.proofs.ReadLaws.{Left, left-start, left-end, left-open, Long, long-part, Next, next-fits, next-line, next-not, next-left, task-room, use-task, use-resource}
+use Rattle.listing.proofs.ReadLaws.{Left, left-start, left-end, left-open, Long, long-part, Next, next-fits, next-line, next-not, next-left, task-room, alpha-task, use-task, use-resource}
 use Rattle.listing.proofs.read_lines.Statement.{statement}
 use Rattle.listing.proofs.read_lines.Tie as tie
 
@@ -61,19 +61,34 @@ loop-again-2 c =
     next-left (next (s .before .before .before)) (s .said2 .given .1) (λ r. refl) (rw (c .new-task .ensures)) (s .before .before .after .ensures)
 
 sub-i : tie.Need-sub-i Inv-loop μ-loop
-sub-i c = use-task (next-line (next (c .before .before .before .before)) (c .before .said3 .given .1))
-
-with-pair-requires : tie.Need-with-pair-requires Inv-loop μ-loop
-with-pair-requires c κs = use-resource (next-line (next (c .before .before .before .before .before)) (c .before .before .said3 .given .1))
+sub-i c = let x = next (c .before .before .before .before) in alpha-task (x .left .ok) (next-line x (c .before .said3 .given .1))
 
 loop-again-3 : tie.Need-loop-again-3 Inv-loop μ-loop
 unfolding tableAfter
 loop-again-3 c =
     let s = c .before .before .before in
-    next-left (next (s .before .before .before)) (s .said3 .given .1) (λ r. refl) (rw (c .with-pair .ensures)) (s .before .before .after .ensures)
+    next-left (next (s .before .before .before)) (s .said3 .given .1) (λ r. refl) (rw (c .with-alpha .ensures)) (s .before .before .after .ensures)
+
+sub-i-2 : tie.Need-sub-i-2 Inv-loop μ-loop
+sub-i-2 c = use-task (next-line (next (c .before .before .before .before)) (c .before .said4 .given .1))
+
+with-pair-requires : tie.Need-with-pair-requires Inv-loop μ-loop
+with-pair-requires c κs = use-resource (next-line (next (c .before .before .before .before .before)) (c .before .before .said4 .given .1))
+
+mul-t43 : tie.Need-mul-t43 Inv-loop μ-loop
+mul-t43 c = omega (arith, next (c .before .before .before .before .before .before) .left .ok .tasks-most)
+
+element-set-from-table-3 : tie.Need-element-set-from-table-3 Inv-loop μ-loop
+element-set-from-table-3 c = omega (arith, next (c .before .before .before .before .before .before) .left .ok .tasks-most)
+
+loop-again-4 : tie.Need-loop-again-4 Inv-loop μ-loop
+unfolding tableAfter
+loop-again-4 c =
+    let s = c .before .before .before in
+    next-left (next (s .before .before .before)) (s .said4 .given .1) (λ r. refl) (rw (c .with-pair .ensures)) (s .before .before .after .ensures)
 
 returns-2 : tie.Need-returns-2 Inv-loop μ-loop
-returns-2 c = rw (c .empty2 .ensures) (next-not (next (c .before .before .before .before .before)) (c .before .before .said4 .given .1))
+returns-2 c = rw (c .empty2 .ensures) (next-not (next (c .before .before .before .before .before)) (c .before .before .said5 .given .1))
 
 returns-3 : tie.Need-returns-3 Inv-loop μ-loop
 returns-3 c = c .at-end .ensures ∙ left-end (c .before .before .loop .inv) (c .before .loop-test .left)
@@ -114,11 +129,20 @@ read-lines-spec =
     sub-i
     (λ c. search needs)
     (λ c. search needs)
-    with-pair-requires
+    (λ c κs. search needs)
     (λ c. search needs)
     (λ c. search needs)
     (λ c. search needs)
     loop-again-3
+    (λ c. search needs)
+    sub-i-2
+    (λ c. search needs)
+    (λ c. search needs)
+    with-pair-requires
+    mul-t43
+    element-set-from-table-3
+    (λ c. search needs)
+    loop-again-4
     (λ c. search needs)
     (λ c κs. search needs)
     returns-2
