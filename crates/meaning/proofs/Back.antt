@@ -63,7 +63,7 @@ rewrites s t q =
 
 task-text : (x y : Task) → SameTask x y → taskText x ≡ taskText y
 unfolding taskText pairText
-task-text x y s = rw (s .period, s .run, s .deadline, join-eq maxResources (pairText x) (pairText y) (λ k h. rw (s .pairs k h)))
+task-text x y s = rw (s .period, s .run, s .deadline, s .alpha, join-eq maxResources (pairText x) (pairText y) (λ k h. rw (s .pairs k h)))
 
 pub same-text : SameText
 unfolding textOf

@@ -44,7 +44,7 @@ digits-to m k n l h =
     let e = digits-length k n in
     record { digits = digits-made k n; some = omega arith; few = omega arith }
 
-count-value : (n : ℕ) → n < 10_000_000_000 → n ≡ valueOf (countText n)
+count-value : (n : ℕ) → n < 10 ^ 20 → n ≡ valueOf (countText n)
 unfolding countText
 count-value n h = digits-value (width n) n (width-enough n h)
 

@@ -1,26 +1,32 @@
 -- Figures that obey the rules make a table that obeys them.
 -- Assumes nothing.
 use Prim.Native.Nat.{ℕ, zero, suc, _+_, _≤_, _<_}
-use mathlib.Core.Path.{_≡_, refl, ap}
+use mathlib.Core.Path.{_≡_, refl, sym, ap, subst, _∙_}
 use mathlib.Core.Bool.{Bool, true, false}
 use mathlib.Core.List.{List, [], _∷_}
 use mathlib.Core.Logic.{_⊎_, inl, inr}
 use native.Mathlib.Omega.{arith}
 use native.Mathlib.Nat.{not-suc-le-zero}
 use lib.ListN.{length}
-use lib.Dec.{eqb}
+use native.Mathlib.Decide.{ℕ-discrete}
+use lib.Dec.{eqb, ltb}
 use borrow.Author.Tests.{eqb-true}
 use Rattle.basics.specs.Choice.{pick, only}
 use Rattle.basics.specs.Over.{sumTo}
 use Rattle.basics.proofs.SumLaws.{sum-le, sum-add, sum-eq, sum-bound}
 use Rattle.table.specs.declared.Pair.{Pair}
+use Rattle.table.specs.declared.Task.{Task}
 use Rattle.table.specs.Limits.{maxTasks, maxResources}
 use Rattle.table.specs.Empty.{unusedPair}
-use Rattle.table.specs.At.{noTask, totalOf}
+use Rattle.table.specs.At.{noTask, taskAt, alphaAt, totalOf}
+use Rattle.table.specs.Rules.{alphasTo}
+use Rattle.table.proofs.RuleFacts.{all-or-none-is}
+use Rattle.table.proofs.AlphaLaws.{holds-unless, some-only-is, AllOrNone, NeverRises, all-or-none}
 use Rattle.table.specs.Accepted.{GoodPair, GoodTask, Accepted}
 use Rattle.line.specs.Stated.{UseFigures, heldPair}
-use Rattle.meaning.specs.Figures.{TaskFigures, Figures, GoodUses, GoodTaskFigures, GoodTasks, GoodFigures, useFor, pairFor, taskOf, taskFor, tableOf}
+use Rattle.meaning.specs.Figures.{TaskFigures, Figures, GoodUses, GoodTaskFigures, GoodAlpha, GoodTasks, alphasOf, GoodFigures, useFor, pairFor, taskOf, taskFor, tableOf}
 use Rattle.basics.proofs.RowLaws.{row-at}
+use Rattle.meaning.proofs.AlphaLaws.{held-most, alphaFor, counted, falls}
 
 good-pair : {C last sum : ℕ} {us : List UseFigures} (k : ℕ) → GoodUses C last sum us → (pairFor us k ≡ unusedPair) ⊎ GoodPair (pairFor us k)
 good-pair k GoodUses.no-use = inl refl
@@ -68,11 +74,12 @@ good-sum (GoodUses.one-use {u = u} {us = us} a b g f r) h =
 
 -- ---- tasks and the table
 
-good-task : (x : TaskFigures) → GoodTaskFigures x → GoodTask (taskOf x)
+good-task : (x : TaskFigures) {last : ℕ} → GoodTaskFigures x → GoodAlpha last (x .alpha) → GoodTask (taskOf x)
 unfolding taskOf
-good-task x g =
+good-task x g a =
     record {
       times = g .times;
+      alpha-most = held-most a;
       pair = λ k h. rw (row-at maxResources k (pairFor (x .uses)) unusedPair h) (good-pair k (g .uses));
       totals = omega (
         arith,
@@ -81,10 +88,40 @@ good-task x g =
       );
     }
 
-good-tasks : {xs : List TaskFigures} (i : ℕ) → GoodTasks xs → i < length xs → GoodTask (taskFor xs i)
+good-tasks : {last : ℕ} {xs : List TaskFigures} (i : ℕ) → GoodTasks last xs → i < length xs → GoodTask (taskFor xs i)
 good-tasks i GoodTasks.no-task h = absurd (not-suc-le-zero h)
-good-tasks zero (GoodTasks.one-task {x} g r) h = good-task x g
-good-tasks (suc i) (GoodTasks.one-task g r) h = good-tasks i r (omega arith)
+good-tasks zero (GoodTasks.one-task {x = x} g a r) h = good-task x g a
+good-tasks (suc i) (GoodTasks.one-task g a r) h = good-tasks i r (omega arith)
+
+module _ (f : Figures) (g : GoodFigures f) where
+  task-at : (i : ℕ) → i < length (f .tasks) → taskAt (tableOf f) i ≡ taskFor (f .tasks) i
+  unfolding tableOf
+  task-at i h = row-at maxTasks i (taskFor (f .tasks)) noTask (omega (arith, g .so-far .tasks-most))
+
+  -- alpha for all tasks or none
+  table-alphas : AllOrNone (tableOf f)
+  unfolding tableOf
+  table-alphas =
+      let t = tableOf f in
+      let e : alphasTo t (t .n) ≡ alphasOf (f .tasks) =
+      sum-eq (length (f .tasks)) _ _ (λ i h. ap (λ (x : Task). only (ltb 0 (x .alpha)) 1) (task-at i h)) ∙ counted (g .so-far .tasks) in
+      all-or-none t .0 (holds-unless _ (some-only-is t) .0 (rw e (all-or-none-is (alphasOf (f .tasks)) (length (f .tasks)) .1 (g .alphas))))
+
+  table-falls : NeverRises (tableOf f)
+  unfolding tableOf
+  table-falls i h =
+      subst (λ (x : Task). alphaAt (tableOf f) (suc i) ≤ x .alpha) (sym (task-at i (omega arith)))
+      (subst (λ (x : Task). x .alpha ≤ alphaFor (f .tasks) i) (sym (task-at (suc i) h)) (go (ℕ-discrete (alphaFor (f .tasks) i) 0) (ℕ-discrete (alphaFor (f .tasks) (suc i)) 0)))
+    where
+      given : 1 ≤ alphaFor (f .tasks) (suc i) → 1 ≤ alphaFor (f .tasks) i
+      given l =
+          let a = table-alphas (suc i) i h (omega arith) (subst (λ (x : Task). 1 ≤ x .alpha) (sym (task-at (suc i) h)) l) in
+          subst (λ (x : Task). 1 ≤ x .alpha) (task-at i (omega arith)) a
+
+      go : Dec (alphaFor (f .tasks) i ≡ 0) → Dec (alphaFor (f .tasks) (suc i) ≡ 0) → alphaFor (f .tasks) (suc i) ≤ alphaFor (f .tasks) i
+      go (no d) e = falls i (g .so-far .tasks) h (omega arith)
+      go (yes d) (yes e) = omega arith
+      go (yes d) (no e) = absurd (omega (arith, given (omega arith)))
 
 pub good-table : (f : Figures) → GoodFigures f → Accepted (tableOf f)
 unfolding tableOf
@@ -94,5 +131,7 @@ good-table f g =
       tasks-most = g .so-far .tasks-most;
       cpus-least = g .so-far .cpus-least;
       cpus-most = g .so-far .cpus-most;
+      all-or-none = table-alphas f g;
+      never-rises = table-falls f g;
       task = λ i h. rw (row-at maxTasks i (taskFor (f .tasks)) noTask (omega (arith, g .so-far .tasks-most))) (good-tasks i (g .so-far .tasks) h);
     }

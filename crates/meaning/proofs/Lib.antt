@@ -2,6 +2,7 @@
 --   SaysLaws      a line of words, with figures that obey the rules, says them
 --   PairRows      the pairs of a task, stored use by use
 --   TableLaws     the tasks and the table, stored line by line
+--   AlphaLaws     the alphas of good figures, as the table holds them
 --   FigureLaws    good figures make an accepted table
 --   StatesRead    lines that state figures are read to their end
 --   ReadStates    of every text a first part states figures
@@ -18,6 +19,7 @@ pub mod SplitLaws
 pub mod SaysLaws
 pub mod PairRows
 pub mod TableLaws
+pub mod AlphaLaws
 pub mod FigureLaws
 pub mod StatesRead
 pub mod ReadStates

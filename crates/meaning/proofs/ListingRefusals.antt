@@ -1,43 +1,49 @@
 -- A listing is refused with the number and at the place that it calls for (specs/Refusals.antt).
 -- Assumes nothing.
-use Prim.Native.Nat.{ℕ, _+_, _≤_, _<_}
+use Prim.Native.Nat.{ℕ, suc, _+_, _≤_, _<_}
 use mathlib.Core.Path.{_≡_, refl, sym, ap, _∙_}
-use mathlib.Core.Bool.{true}
+use mathlib.Core.Bool.{Bool, true, false}
 use mathlib.Core.List.{List, [], _∷_, _++_, append-nil}
 use mathlib.Core.Logic.{_⊎_, inl, inr}
 use native.Mathlib.Omega.{arith}
 use native.Mathlib.Decide.{decLt}
 use lib.ListN.{length}
-use borrow.Author.Tests.{le-leb, lt-leb, lt-ltb}
+use borrow.Author.Tests.{le-leb, lt-leb, lt-ltb, eqb-false}
+use lib.Dec.{eqb}
+use Rattle.basics.proofs.ChoiceLaws.{or-neither}
 use Rattle.table.specs.declared.Table.{Table}
 use Rattle.table.specs.declared.Fault.{Fault}
-use Rattle.table.specs.declared.Fault.the-variants.{TooLong, BadForm, NoTask}
+use Rattle.table.specs.declared.Fault.the-variants.{TooLong, BadForm, NoTask, AlphaMissing}
 use Rattle.table.specs.declared.Checked.{Checked}
 use Rattle.table.specs.declared.Checked.the-variants.{Fine, Refused}
 use Rattle.table.specs.declared.Reading.{Reading}
 use Rattle.table.specs.Limits.{maxListing}
 use Rattle.table.specs.Empty.{emptyTable}
 use Rattle.table.specs.Faults.{numberOf, Refuses}
+use Rattle.table.specs.Rules.{allOrNone}
+use Rattle.table.proofs.Deciding.{failing}
+use Rattle.table.proofs.RuleFacts.{all-or-none-is}
 use Rattle.line.specs.Stated.{no-byte, one-byte}
 use Rattle.line.proofs.Called.{line-refused}
-use Rattle.listing.specs.Read.{fresh, readEnd, readListing}
-use Rattle.meaning.specs.Figures.{TaskFigures, tableOf}
+use Rattle.listing.specs.Read.{noLines, readEnd, readListing}
+use Rattle.meaning.specs.Figures.{AlphaFigure, no-alpha, alpha-of, TaskFigures, alphaLines, alphasOf, tableOf}
 use Rattle.meaning.specs.Refusals.{leftBy, lineCount, Before, no-line, some-lines, CallsFor, RefusedAsCalled}
 use Rattle.meaning.proofs.SplitLaws.{open-end}
 use Rattle.meaning.proofs.StatesRead.{readText}
 use Rattle.meaning.proofs.ReadStates.{Stops, at-end, at-line}
+use Rattle.meaning.proofs.Meaning.{left-counts}
 use Rattle.meaning.proofs.UpTo.{StatesUpTo, stops-first, stops-later, states-up-to, figures-read, stop-line, stop-end}
 
 -- ---- from what is called for to the answer
 
 -- what stands before a line is read, and the reading goes on there
 before-read : {s : List ℕ} {n : ℕ} {xs : List TaskFigures} (left : List ℕ) → Before s n xs
-    → (t : Table) × (readText emptyTable (fresh 0 0) 1 (s ++ left) ≡ readText t (leftBy xs) n left)
+    → (t : Table) × (readText emptyTable noLines 1 (s ++ left) ≡ readText t (leftBy xs) n left)
 before-read left no-line = (emptyTable, refl)
 before-read left (some-lines {f = f} a g) = (tableOf f, figures-read left a g)
 
 module _ (s : List ℕ) (l : length s ≤ maxListing) where
-  text-read : readListing s ≡ readText emptyTable (fresh 0 0) 1 s
+  text-read : readListing s ≡ readText emptyTable noLines 1 s
   unfolding readListing
   text-read = rw (le-leb (length s) maxListing l)
 
@@ -46,10 +52,20 @@ module _ (s : List ℕ) (l : length s ≤ maxListing) where
       → ((t : Table) → readText t (leftBy xs) n left .answer ≡ x) → readListing s .answer ≡ x
   goes-on left x e b h =
       let r = before-read left b in
-      ap (λ (y : Reading). y .answer) (text-read ∙ ap (readText emptyTable (fresh 0 0) 1) e ∙ r .1) ∙ h (r .0)
+      ap (λ (y : Reading). y .answer) (text-read ∙ ap (readText emptyTable noLines 1) e ∙ r .1) ∙ h (r .0)
 
 tells : (s : List ℕ) (f : Fault) (place : ℕ) → readListing s .answer ≡ Refused (record { fault = f; place = place }) → Refuses (readListing s .answer) (numberOf f) place
 tells s f place e = (_, e, record { number = refl; place = refl })
+
+-- some tasks only
+neither : {a n : ℕ} → (a ≡ 0) ⊎ (a ≡ n) → 1 ≤ a → a < n → ⊥
+neither (inl e) l h = omega arith
+neither (inr e) l h = omega arith
+
+-- lines that state a task are two at least
+some-before : {s : List ℕ} {n : ℕ} {xs : List TaskFigures} → Before s n xs → 1 ≤ length xs → 1 < n
+some-before no-line h = absurd (omega arith)
+some-before (some-lines a g) h = omega arith
 
 answered : (s : List ℕ) {number place : ℕ} → CallsFor s number place → Refuses (readListing s .answer) number place
 unfolding readListing readEnd
@@ -59,23 +75,50 @@ answered s (CallsFor.at-line before l rest {n} {number} {tasks = xs} m e w b c) 
     (x .0, goes-on s m (l ++ (10 ∷ rest)) (Refused (x .0)) e b (λ t. stop-line t (leftBy xs) n rest (x .0) w (x .1)), x .2)
 answered s (CallsFor.not-ended before l {n} {tasks = xs} m e w h b) =
     tells s BadForm n (goes-on s m l _ e b (λ t. ap (λ (y : Reading). y .answer) (stop-end t (leftBy xs) n w) ∙ rw (open-end w h true)))
-answered s (CallsFor.empty e) = tells s BadForm 1 (rw e (ap (λ (y : Reading). y .answer) (stop-end emptyTable (fresh 0 0) 1 no-byte)))
+answered s (CallsFor.empty e) = tells s BadForm 1 (rw e (ap (λ (y : Reading). y .answer) (stop-end emptyTable noLines 1 no-byte)))
 answered s (CallsFor.no-task m b) =
     tells s NoTask 2 (goes-on s m [] _ (sym (append-nil s)) b (λ t. ap (λ (y : Reading). y .answer) (stop-end t (leftBy []) 2 no-byte)))
+answered s (CallsFor.alpha-missing {tasks = []} m b l h) = absurd (omega arith)
+answered s (CallsFor.alpha-missing {n} {tasks = x ∷ xs} m b l h) =
+    let e : allOrNone (alphasOf (x ∷ xs)) (suc (length xs)) ≡ false =
+    failing _ (all-or-none-is (alphasOf (x ∷ xs)) (suc (length xs)) .0) (λ z. neither z l h) in
+    tells s AlphaMissing 0
+    (goes-on s m [] _ (sym (append-nil s)) b
+    (λ t. ap (λ (y : Reading). y .answer) (stop-end t (leftBy (x ∷ xs)) n no-byte) ∙ rw (lt-ltb 1 n (some-before b (omega arith)), lt-ltb 0 (suc (length xs)) (omega arith), e)))
 
 -- ---- from the answer to what is called for
+
+-- no more tasks have an alpha than there are
+lines-most : (a : AlphaFigure) → alphaLines a ≤ 1
+lines-most no-alpha = omega arith
+lines-most (alpha-of A) = omega arith
+
+alphas-most : (xs : List TaskFigures) → alphasOf xs ≤ length xs
+alphas-most [] = omega arith
+alphas-most (x ∷ xs) = omega (arith, lines-most (x .alpha), alphas-most xs)
 
 abbrev Called : List ℕ → Type 0
 Called s = (number place : ℕ) × CallsFor s number place
 
--- a listing that ends behind its last line calls for 9, or has a task
-end-called : {s : List ℕ} {n : ℕ} {xs : List TaskFigures} → length s ≤ maxListing → Before s n xs → Called s ⊎ ((1 < n) × (1 ≤ length xs))
+-- a listing that ends behind its last line calls for 9 or 17, or has a task and alpha for all tasks or none
+abbrev Ends : ℕ → List TaskFigures → Type 0
+Ends n xs = (1 < n) × (1 ≤ length xs) × (allOrNone (alphasOf xs) (length xs) ≡ true)
+
+end-called : {s : List ℕ} {n : ℕ} {xs : List TaskFigures} → length s ≤ maxListing → Before s n xs → Called s ⊎ Ends n xs
 end-called l no-line = inl (2, 1, CallsFor.empty refl)
 end-called {s} l (some-lines {f = f} a g) = go (f .tasks) refl
   where
-    go : (xs : List TaskFigures) → f .tasks ≡ xs → Called s ⊎ ((1 < 2 + lineCount (f .tasks)) × (1 ≤ length (f .tasks)))
+    alphas : 1 ≤ length (f .tasks) → (b : Bool) → allOrNone (alphasOf (f .tasks)) (length (f .tasks)) ≡ b → Called s ⊎ Ends (2 + lineCount (f .tasks)) (f .tasks)
+    alphas h true e = inr (omega arith, h, e)
+    alphas h false e =
+        let z = or-neither (eqb (alphasOf (f .tasks)) 0) _ e in
+        let x = eqb-false (alphasOf (f .tasks)) 0 (z .0) in
+        let y = eqb-false (alphasOf (f .tasks)) (length (f .tasks)) (z .1) in
+        inl (17, 0, CallsFor.alpha-missing l (some-lines a g) (omega arith) (omega (arith, alphas-most (f .tasks))))
+
+    go : (xs : List TaskFigures) → f .tasks ≡ xs → Called s ⊎ Ends (2 + lineCount (f .tasks)) (f .tasks)
     go [] e = let b : Before s (2 + lineCount (f .tasks)) (f .tasks) = some-lines a g in inl (9, 2, CallsFor.no-task l (rw e at b))
-    go (x ∷ xs) e = inr (omega arith, rw e (omega arith))
+    go (x ∷ xs) e = alphas (rw e (omega arith)) _ refl
 
 module _ (s : List ℕ) (l : length s ≤ maxListing) where
   -- where it stops, something is called for, or nothing is said against it
@@ -91,9 +134,11 @@ module _ (s : List ℕ) (l : length s ≤ maxListing) where
       f : s ≡ before
       f = e ∙ append-nil before
 
-      go : Called s ⊎ ((1 < n) × (1 ≤ length xs)) → Called s ⊎ (readListing s .answer ≡ Fine)
+      go : Called s ⊎ Ends n xs → Called s ⊎ (readListing s .answer ≡ Fine)
       go (inl c) = inl c
-      go (inr h) = inr (goes-on s l [] Fine e b (λ t. ap (λ (y : Reading). y .answer) (stop-end t (leftBy xs) n no-byte) ∙ rw (lt-ltb 1 n (h .0), lt-ltb 0 (length xs) (h .1))))
+      go (inr h) =
+          let c = left-counts xs in
+          inr (goes-on s l [] Fine e b (λ t. ap (λ (y : Reading). y .answer) (stop-end t (leftBy xs) n no-byte) ∙ rw (lt-ltb 1 n (h .0), c .0, c .1, lt-ltb 0 (length xs) (h .1), h .2)))
 
   all-called : Called s ⊎ (readListing s .answer ≡ Fine)
   all-called = go (states-up-to s)

@@ -3,7 +3,7 @@
 use Prim.Native.Nat.{ℕ, _+_, _≤_, _<_}
 use mathlib.Core.Path.{_≡_, refl, sym, ap, _∙_}
 use mathlib.Core.Bool.{Bool, true, false}
-use mathlib.Core.List.{List, [], _++_, append-nil}
+use mathlib.Core.List.{List, [], _∷_, _++_, append-nil}
 use native.Mathlib.Omega.{arith}
 use lib.ListN.{length}
 use lib.Dec.{leb, ltb}
@@ -11,18 +11,20 @@ use borrow.Author.Tests.{le-leb, ltb-true, lt-ltb}
 use Rattle.basics.specs.Choice.{pick}
 use Rattle.table.specs.declared.Table.{Table}
 use Rattle.table.specs.declared.Refusal.{Refusal}
-use Rattle.table.specs.declared.Fault.the-variants.{TooLong, BadForm, NoTask}
+use Rattle.table.specs.declared.Fault.the-variants.{TooLong, BadForm, NoTask, AlphaMissing}
 use Rattle.table.specs.declared.Checked.the-variants.{Fine, Refused}
 use Rattle.table.specs.declared.Reading.{Reading}
 use Rattle.table.specs.Limits.{maxListing}
 use Rattle.table.specs.Empty.{emptyTable}
 use Rattle.table.specs.Answers.{accepted, refused}
+use Rattle.table.specs.Rules.{allOrNone}
+use Rattle.table.proofs.RuleFacts.{all-or-none-is}
 use Rattle.table.proofs.Acceptance.{accepted-fine}
 use Rattle.line.specs.declared.Past.{Past}
 use Rattle.line.specs.Stated.{Without, no-byte, one-byte}
 use Rattle.listing.specs.Lines.{endsInLF}
-use Rattle.listing.specs.Read.{fresh, readEnd, readListing}
-use Rattle.meaning.specs.Figures.{Figures, StatesFigures, GoodSoFar, GoodFigures, tableOf}
+use Rattle.listing.specs.Read.{noLines, readEnd, readListing}
+use Rattle.meaning.specs.Figures.{TaskFigures, Figures, StatesFigures, alphasOf, GoodSoFar, GoodFigures, tableOf}
 use Rattle.meaning.specs.Refusals.{leftBy, lineCount}
 use Rattle.meaning.specs.Meaning.{Correct, Complete, PassesCheck}
 use Rattle.meaning.proofs.SplitLaws.{open-end}
@@ -43,30 +45,50 @@ refused-not {r} d e =
 abbrev Right : List ℕ → Table → Type 0
 Right s t = (f : Figures) × StatesFigures s f × GoodFigures f × (t ≡ tableOf f)
 
--- an accepted reading ends behind its last line, after a task
-end-is : {t u : Table} (past : Past) (n : ℕ) {s : List ℕ} → Without 10 s → readEnd t past n (endsInLF true s) ≡ accepted u → (s ≡ []) × (1 < n) × (1 ≤ past .tasks) × (u ≡ t)
+-- an accepted reading ends behind its last line, after a task, and with alpha for all tasks or none
+record Ended (past : Past) (n : ℕ) (s : List ℕ) (t u : Table) : Type 0 where
+  all : s ≡ []
+  lines : 1 < n
+  some : 1 ≤ past .tasks
+  alphas : allOrNone (past .alphas) (past .tasks) ≡ true
+  table : u ≡ t
+
+end-is : {t u : Table} (past : Past) (n : ℕ) {s : List ℕ} → Without 10 s → readEnd t past n (endsInLF true s) ≡ accepted u → Ended past n s t u
 unfolding readEnd
-end-is {t} {u} past n no-byte q = go (ltb 1 n) refl (ltb 0 (past .tasks)) refl q
+end-is {t} {u} past n no-byte q = go (ltb 1 n) refl (ltb 0 (past .tasks)) refl (allOrNone (past .alphas) (past .tasks)) refl q
   where
-    go : (l : Bool) → ltb 1 n ≡ l → (b : Bool) → ltb 0 (past .tasks) ≡ b → pick l (pick b (accepted t) (refused NoTask 2)) (refused BadForm n) ≡ accepted u
-        → (_≡_ {A = List ℕ} [] []) × (1 < n) × (1 ≤ past .tasks) × (u ≡ t)
-    go true e true f q = (refl, ltb-true 1 n e, ltb-true 0 (past .tasks) f, sym (ap (λ (y : Reading). y .table) q))
-    go true e false f q = absurd (refused-not refl q)
-    go false e b f q = absurd (refused-not refl q)
+    go : (l : Bool) → ltb 1 n ≡ l → (b : Bool) → ltb 0 (past .tasks) ≡ b → (d : Bool) → allOrNone (past .alphas) (past .tasks) ≡ d
+        → pick l (pick b (pick d (accepted t) (refused AlphaMissing 0)) (refused NoTask 2)) (refused BadForm n) ≡ accepted u → Ended past n [] t u
+    go true e true f true g q =
+        record { all = refl; lines = ltb-true 1 n e; some = ltb-true 0 (past .tasks) f; alphas = g; table = sym (ap (λ (y : Reading). y .table) q) }
+    go true e true f false g q = absurd (refused-not refl q)
+    go true e false f d g q = absurd (refused-not refl q)
+    go false e b f d g q = absurd (refused-not refl q)
 end-is past n (one-byte m r) q = absurd (refused-not refl (rw (open-end (one-byte m r) (omega arith) true) at q))
 
-text-right : (s : List ℕ) (t : Table) → readText emptyTable (fresh 0 0) 1 s ≡ accepted t → Right s t
+-- what tasks leave says how many they are, and how many have an alpha
+pub left-counts : (xs : List TaskFigures) → (leftBy xs .tasks ≡ length xs) × (leftBy xs .alphas ≡ alphasOf xs)
+left-counts [] = (refl, refl)
+left-counts (x ∷ xs) = (refl, refl)
+
+text-right : (s : List ℕ) (t : Table) → readText emptyTable noLines 1 s ≡ accepted t → Right s t
 text-right s t q = go (states-up-to s)
   where
-    first : Stops (fresh 0 0) 1 s → Right s t
-    first (at-end w) = absurd (omega (arith, end-is (fresh 0 0) 1 w (sym (stop-end emptyTable (fresh 0 0) 1 w) ∙ q) .1))
-    first (at-line l rest r e w d) = absurd (refused-not (stop-line emptyTable (fresh 0 0) 1 rest r w d) (rw e at q))
+    first : Stops noLines 1 s → Right s t
+    first (at-end w) = absurd (omega (arith, end-is noLines 1 w (sym (stop-end emptyTable noLines 1 w) ∙ q) .lines))
+    first (at-line l rest r e w d) = absurd (refused-not (stop-line emptyTable noLines 1 rest r w d) (rw e at q))
 
     later : (before left : List ℕ) (f : Figures) → s ≡ before ++ left → StatesFigures before f → GoodSoFar f → Stops (leftBy (f .tasks)) (2 + lineCount (f .tasks)) left
         → readText (tableOf f) (leftBy (f .tasks)) (2 + lineCount (f .tasks)) left ≡ accepted t → Right s t
     later before left f e states g (at-end w) q =
         let r = end-is (leftBy (f .tasks)) (2 + lineCount (f .tasks)) w (sym (stop-end (tableOf f) (leftBy (f .tasks)) (2 + lineCount (f .tasks)) w) ∙ q) in
-        (f, rw (e, r .0, append-nil before) states, record { so-far = g; tasks-least = r .2 }, r .3)
+        let n = left-counts (f .tasks) in
+        (
+          f,
+          rw (e, r .all, append-nil before) states,
+          record { so-far = g; tasks-least = rw (n .0) at (r .some); alphas = all-or-none-is _ _ .0 (rw (n .0, n .1) at (r .alphas)) },
+          r .table,
+        )
     later before left f e states g (at-line l rest r d w x) q = absurd (refused-not (stop-line (tableOf f) _ _ rest r w x) (rw d at q))
 
     go : StatesUpTo s → Right s t
@@ -77,7 +99,7 @@ pub correct : Correct
 unfolding readListing
 correct s t q = go (leb (length s) maxListing) q
   where
-    go : (b : Bool) → pick b (readText emptyTable (fresh 0 0) 1 s) (refused TooLong 0) ≡ accepted t → Right s t
+    go : (b : Bool) → pick b (readText emptyTable noLines 1 s) (refused TooLong 0) ≡ accepted t → Right s t
     go true q = text-right s t q
     go false q = absurd (refused-not refl q)
 
@@ -87,8 +109,15 @@ pub complete : Complete
 unfolding readListing readEnd
 complete s f l a g =
     rw (le-leb (length s) maxListing l)
-    (sym (ap (readText emptyTable (fresh 0 0) 1) (append-nil s)) ∙ figures-read [] a (g .so-far) ∙ stop-end (tableOf f) (leftBy (f .tasks)) (2 + lineCount (f .tasks)) no-byte
-    ∙ rw (lt-ltb 1 (2 + lineCount (f .tasks)) (omega arith), lt-ltb 0 (length (f .tasks)) (g .tasks-least)))
+    (sym (ap (readText emptyTable noLines 1) (append-nil s)) ∙ figures-read [] a (g .so-far) ∙ stop-end (tableOf f) (leftBy (f .tasks)) (2 + lineCount (f .tasks)) no-byte
+    ∙ (let n = left-counts (f .tasks) in
+    rw (
+      lt-ltb 1 (2 + lineCount (f .tasks)) (omega arith),
+      n .0,
+      n .1,
+      lt-ltb 0 (length (f .tasks)) (g .tasks-least),
+      all-or-none-is (alphasOf (f .tasks)) (length (f .tasks)) .1 (g .alphas),
+    )))
 
 -- ---- the check of a table
 

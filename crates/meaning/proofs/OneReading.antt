@@ -12,9 +12,9 @@ use Rattle.field.proofs.OneNumber.{count-one, time-one}
 use Rattle.line.specs.Fields.{others}
 use Rattle.line.specs.Stated.{IsField, AreFields, none, more, UseFigures}
 use Rattle.line.proofs.LineForm.{line-fields}
-use Rattle.line.proofs.StatedLaws.{count-field, cpus-word, task-word, use-word}
+use Rattle.line.proofs.StatedLaws.{count-field, cpus-word, task-word, alpha-word, use-word}
 use Rattle.listing.specs.Lines.{lines}
-use Rattle.meaning.specs.Figures.{TaskFigures, Figures, StatesUses, use-line, StatesTasks, task-line, StatesFigures, cpus-line}
+use Rattle.meaning.specs.Figures.{AlphaFigure, alpha-of, TaskFigures, Figures, StatesAlpha, no-alpha-line, alpha-line, StatesUses, use-line, StatesTasks, task-line, StatesFigures, cpus-line}
 use Rattle.meaning.specs.Meaning.{Unambiguous}
 use Rattle.meaning.proofs.SplitLaws.{line-split, begun}
 use Rattle.meaning.proofs.StatesRead.{task-fields, use-fields}
@@ -46,8 +46,8 @@ one-line word {ws} {vs} {rest} {after} a b c e =
 use-same : {u v : UseFigures} → u .K ≡ v .K → u .N ≡ v .N → u .c ≡ v .c → u .CT ≡ v .CT → u ≡ v
 use-same a b c d = λ j. record { K = a j; N = b j; c = c j; CT = d j }
 
-task-same : {x y : TaskFigures} → x .T ≡ y .T → x .C ≡ y .C → x .D ≡ y .D → x .uses ≡ y .uses → x ≡ y
-task-same a b c d = λ j. record { T = a j; C = b j; D = c j; uses = d j }
+task-same : {x y : TaskFigures} → x .T ≡ y .T → x .C ≡ y .C → x .D ≡ y .D → x .alpha ≡ y .alpha → x .uses ≡ y .uses → x ≡ y
+task-same a b c d e = λ j. record { T = a j; C = b j; D = c j; alpha = d j; uses = e j }
 
 abbrev firstByte : List ℕ → ℕ
 firstByte s = getD s 0 0
@@ -69,20 +69,44 @@ uses-one {rest = rest} {after} (use-line {k} {n} {c} {ct} {rest = z} a r) (use-l
     (time-one (cc (o .same)) (a .longest) (a' .longest)) (time-one (cc (o .same)) (a .total) (a' .total)) in
     record { same = cc (u, i .same); left = i .left }
 
+-- ---- the `alpha` line of a task, up to what follows it
+
+-- a text that does not begin as an `alpha` line does
+abbrev NoAlphaLine : List ℕ → Type 0
+NoAlphaLine s = firstByte s ≡ 97 → ⊥
+
+alpha-one : {s t : List ℕ} {a b : AlphaFigure} {rest after : List ℕ} → StatesAlpha s a → StatesAlpha t b → NoAlphaLine rest → NoAlphaLine after
+    → s ++ rest ≡ t ++ after → One a b rest after
+alpha-one no-alpha-line no-alpha-line p q e = record { same = refl; left = e }
+alpha-one no-alpha-line (alpha-line c) p q e = absurd (p (ap firstByte e))
+alpha-one (alpha-line c) no-alpha-line p q e = absurd (q (sym (ap firstByte e)))
+alpha-one (alpha-line c) (alpha-line d) p q e =
+    let o = one-line "alpha" alpha-word (more (count-field c) none) (more (count-field d) none) e in
+    record { same = ap alpha-of (count-one (cc (o .same)) c d); left = o .left }
+
+uses-no-alpha : {s : List ℕ} {us : List UseFigures} (rest : List ℕ) → StatesUses s us → NoAlphaLine rest → NoAlphaLine (s ++ rest)
+uses-no-alpha rest StatesUses.no-use n h = n h
+uses-no-alpha rest (use-line a r) n h = omega arith
+
 -- ---- the tasks, and the listing
 
 tasks-no-use : {s : List ℕ} {xs : List TaskFigures} → StatesTasks s xs → NoUse s
 tasks-no-use StatesTasks.no-task h = omega arith
-tasks-no-use (task-line a p r) h = omega arith
+tasks-no-use (task-line a b p r) h = omega arith
+
+tasks-no-alpha : {s : List ℕ} {xs : List TaskFigures} → StatesTasks s xs → NoAlphaLine s
+tasks-no-alpha StatesTasks.no-task h = omega arith
+tasks-no-alpha (task-line a b p r) h = omega arith
 
 tasks-one : {s t : List ℕ} {xs ys : List TaskFigures} → StatesTasks s xs → StatesTasks t ys → s ≡ t → xs ≡ ys
 tasks-one StatesTasks.no-task StatesTasks.no-task e = refl
-tasks-one StatesTasks.no-task (task-line a p r) e = absurd (omega (arith, ap firstByte e))
-tasks-one (task-line a p r) StatesTasks.no-task e = absurd (omega (arith, ap firstByte e))
-tasks-one (task-line a p r) (task-line a' p' r') e =
+tasks-one StatesTasks.no-task (task-line a b p r) e = absurd (omega (arith, ap firstByte e))
+tasks-one (task-line a b p r) StatesTasks.no-task e = absurd (omega (arith, ap firstByte e))
+tasks-one (task-line {rest = z} a b p r) (task-line {rest = z'} a' b' p' r') e =
     let o = one-line "task" task-word (task-fields a) (task-fields a') e in
-    let u = uses-one p p' (tasks-no-use r) (tasks-no-use r') (o .left) in
-    let x = task-same (time-one (cc (o .same)) (a .period) (a' .period)) (time-one (cc (o .same)) (a .run) (a' .run)) (time-one (cc (o .same)) (a .deadline) (a' .deadline)) (u .same) in
+    let v = alpha-one b b' (uses-no-alpha z p (tasks-no-alpha r)) (uses-no-alpha z' p' (tasks-no-alpha r')) (o .left) in
+    let u = uses-one p p' (tasks-no-use r) (tasks-no-use r') (v .left) in
+    let x = task-same (time-one (cc (o .same)) (a .period) (a' .period)) (time-one (cc (o .same)) (a .run) (a' .run)) (time-one (cc (o .same)) (a .deadline) (a' .deadline)) (v .same) (u .same) in
     cc (x, tasks-one r r' (u .left))
 
 figures-one : {s t : List ℕ} {f g : Figures} → StatesFigures s f → StatesFigures t g → s ≡ t → f ≡ g

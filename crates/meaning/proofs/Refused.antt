@@ -9,14 +9,15 @@ use lib.ListN.{length}
 use lib.Dec.{leb, ltb}
 use Rattle.basics.specs.Choice.{pick}
 use Rattle.table.specs.declared.Refusal.{Refusal}
-use Rattle.table.specs.declared.Fault.the-variants.{TooLong, NoTask, BadForm}
+use Rattle.table.specs.declared.Fault.the-variants.{TooLong, NoTask, BadForm, AlphaMissing}
 use Rattle.table.specs.declared.Table.{Table}
 use Rattle.table.specs.declared.Checked.the-variants.{Refused}
 use Rattle.table.specs.Limits.{maxListing}
+use Rattle.table.specs.Rules.{allOrNone}
 use Rattle.table.specs.Empty.{emptyTable}
 use Rattle.line.specs.declared.Past.{Past}
 use Rattle.line.specs.declared.Said.{Said}
-use Rattle.line.specs.declared.Said.the-variants.{Cpus, Task as TaskLine, Use, Not}
+use Rattle.line.specs.declared.Said.the-variants.{Cpus, Task as TaskLine, Alpha, Use, Not}
 use Rattle.table.specs.declared.Reading.{Reading}
 use Rattle.table.specs.Answers.{accepted, refused}
 use Rattle.listing.specs.Read.{onSaid, readEnd, readLines, readListing}
@@ -25,18 +26,22 @@ use Rattle.line.specs.Line.{lineSays}
 -- what a reading gives where it is refused, at its end and at each line
 end-empty : (t : Table) (past : Past) (n : ℕ) (c : Bool) (r : Refusal) → readEnd t past n c .answer ≡ Refused r → readEnd t past n c .table ≡ emptyTable
 unfolding readEnd
-end-empty t past n c r = go (c && ltb 1 n) (ltb 0 (past .tasks))
+end-empty t past n c r = go (c && ltb 1 n) (ltb 0 (past .tasks)) (allOrNone (past .alphas) (past .tasks))
   where
-    go : (a b : Bool) → pick a (pick b (accepted t) (refused NoTask 2)) (refused BadForm n) .answer ≡ Refused r
-        → pick a (pick b (accepted t) (refused NoTask 2)) (refused BadForm n) .table ≡ emptyTable
-    go true true e = let z : _≡_ {A = ℕ} 0 1 = cc in absurd (omega arith)
-    go true false e = refl
-    go false b e = refl
+    ending : Bool → Bool → Bool → Reading
+    ending a b d = pick a (pick b (pick d (accepted t) (refused AlphaMissing 0)) (refused NoTask 2)) (refused BadForm n)
+
+    go : (a b d : Bool) → ending a b d .answer ≡ Refused r → ending a b d .table ≡ emptyTable
+    go true true true e = let z : _≡_ {A = ℕ} 0 1 = cc in absurd (omega arith)
+    go true true false e = refl
+    go true false d e = refl
+    go false b d e = refl
 
 said-empty : (said : Said) (x : Reading) (r : Refusal) → (x .answer ≡ Refused r → x .table ≡ emptyTable)
     → onSaid said x .answer ≡ Refused r → onSaid said x .table ≡ emptyTable
 said-empty (Cpus M) x r h e = h e
 said-empty (TaskLine T C D) x r h e = h e
+said-empty (Alpha A) x r h e = h e
 said-empty (Use K p) x r h e = h e
 said-empty (Not s) x r h e = refl
 

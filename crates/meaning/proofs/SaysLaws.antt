@@ -2,27 +2,29 @@
 -- Assumes nothing.
 use Prim.Native.Nat.{ℕ, _+_, _≤_, _<_}
 use mathlib.Core.Path.{_≡_, refl}
-use mathlib.Core.Bool.{true}
+use mathlib.Core.Bool.{true, false, and-false}
 use mathlib.Core.List.{List, [], _∷_}
 use native.Mathlib.Omega.{arith}
-use borrow.Author.Tests.{lt-ltb}
+use borrow.Author.Tests.{lt-ltb, le-leb}
 use Rattle.basics.specs.Text.{bytes}
 use Rattle.basics.proofs.ChoiceLaws.{within-in}
 use Rattle.table.specs.declared.Pair.{Pair}
 use Rattle.table.specs.declared.Resource.{Resource}
-use Rattle.table.specs.Limits.{maxCpus, maxTasks, maxResources}
+use Rattle.table.specs.Limits.{maxCpus, maxTasks, maxResources, maxAlpha}
 use Rattle.table.proofs.RuleLaws.{times-fine, used-range, used-totals}
+use Rattle.table.proofs.Acceptance.{alpha-fine}
+use Rattle.table.specs.Rules.{mayFollow}
 use Rattle.table.specs.Accepted.{GoodTimes, GoodPair}
 use Rattle.field.specs.Spelling.{Time, StatesCount}
 use Rattle.field.specs.declared.Field.{Field}
 use Rattle.line.specs.declared.Past.{Past}
-use Rattle.line.specs.declared.Said.the-variants.{Cpus, Task as TaskLine, Use}
+use Rattle.line.specs.declared.Said.the-variants.{Cpus, Task as TaskLine, Alpha, Use}
 use Rattle.line.specs.Fields.{form}
-use Rattle.line.specs.Line.{cpusLine, taskLine, useLine, lineSays}
+use Rattle.line.specs.Line.{cpusLine, taskLine, alphaLine, useLine, lineSays}
 use Rattle.line.specs.Stated.{IsLine, StatesTask, UseFigures, StatesUse, heldPair}
 use Rattle.line.proofs.LineForm.{line-fields, line-form, form-other}
-use Rattle.line.proofs.StatedLaws.{cpus-word, task-word, use-word, count-stated, time-stated}
-use Rattle.line.proofs.LineRules.{CpusRules, TaskRules, UseRules}
+use Rattle.line.proofs.StatedLaws.{cpus-word, task-word, alpha-word, use-word, count-stated, time-stated}
+use Rattle.line.proofs.LineRules.{CpusRules, TaskRules, AlphaRules, UseRules}
 
 cpus-said : {f : Field} {M : ℕ} (n : ℕ) → CpusRules f M → cpusLine n f ≡ Cpus M
 unfolding cpusLine
@@ -32,6 +34,10 @@ task-said : {past : Past} {f g h : Field} {T C D : ℕ} (n : ℕ) → TaskRules 
 unfolding taskLine
 task-said {past} {T = T} {C} {D} n r =
     rw (r .period .is, r .run .is, r .deadline .is, lt-ltb (past .tasks) maxTasks (r .room), times-fine n T C D (r .times))
+
+alpha-said : {past : Past} {f : Field} {A : ℕ} (n : ℕ) → AlphaRules past f A → alphaLine past n f ≡ Alpha A
+unfolding alphaLine
+alpha-said {past} {A = A} n r = rw (r .field .is, le-leb 1 A (r .least), alpha-fine n (past .alpha) A (r .most) (r .follows))
 
 use-said : {past : Past} {f g h i : Field} {K : Resource} {p : Pair} (n : ℕ) → UseRules past f g h i K p → useLine past n f g h i ≡ Use K p
 unfolding useLine
@@ -62,12 +68,22 @@ module _ (past : Past) (n : ℕ) (s : List ℕ) where
       rw (form-other (bytes "task") (bytes "cpus") 4 2 s f refl, f, lt-ltb 1 n h, line-fields task-word l .1)
       (task-said n (record { period = time-stated (x .period); run = time-stated (x .run); deadline = time-stated (x .deadline); room = room; times = g }))
 
+  pub says-alpha : {a : List ℕ} {A : ℕ} → IsLine "alpha" (a ∷ []) s → past .fresh ≡ true → StatesCount a A → 1 ≤ A → A ≤ maxAlpha → mayFollow (past .alpha) A ≡ true
+      → lineSays past n s ≡ Alpha A
+  unfolding lineSays
+  says-alpha l e m a b c =
+      let f : form (bytes "alpha") 2 s ≡ true = line-form alpha-word l in
+      let o = line-fields alpha-word l in
+      let g : form (bytes "cpus") 2 s ≡ false = rw (o .0, and-false) in
+      rw (g, form-other (bytes "alpha") (bytes "task") 2 4 s f refl, f, e, o .1)
+      (alpha-said n (record { field = count-stated m; least = a; most = b; follows = c }))
+
   pub says-use : {k r c ct : List ℕ} {u : UseFigures} → IsLine "use" (k ∷ r ∷ c ∷ ct ∷ []) s → 0 < past .tasks → StatesUse k r c ct u → u .K ≤ maxResources
       → past .last .0 < u .K → GoodPair (heldPair u) → past .sum + u .CT .held ≤ past .run → lineSays past n s ≡ Use (record { 0 = u .K }) (heldPair u)
   unfolding lineSays
   says-use l h x most rising g fits =
       let f : form (bytes "use") 5 s ≡ true = line-form use-word l in
-      rw (form-other (bytes "use") (bytes "cpus") 5 2 s f refl, form-other (bytes "use") (bytes "task") 5 4 s f refl, f, lt-ltb 0 (past .tasks) h, line-fields use-word l .1)
+      rw (form-other (bytes "use") (bytes "cpus") 5 2 s f refl, form-other (bytes "use") (bytes "task") 5 4 s f refl, form-other (bytes "use") (bytes "alpha") 5 2 s f refl, f, lt-ltb 0 (past .tasks) h, line-fields use-word l .1)
       (use-said n
       (record {
         resource = count-stated (x .resource);

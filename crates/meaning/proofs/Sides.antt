@@ -44,8 +44,8 @@ uses-sides (use-line {u = u} {us} a r) k = go (eqb (u .K) (suc k)) (uses-sides r
 
 tasks-sides : {s : List ℕ} {xs : List TaskFigures} → StatesTasks s xs → (i : ℕ) → i < length xs → TaskSides (getD xs i noFigures)
 tasks-sides StatesTasks.no-task i h = absurd (omega arith)
-tasks-sides (task-line a p r) zero h = record { T = a .period .rounds; C = a .run .rounds; D = a .deadline .rounds; uses = uses-sides p }
-tasks-sides (task-line a p r) (suc i) h = tasks-sides r i (omega arith)
+tasks-sides (task-line a b p r) zero h = record { T = a .period .rounds; C = a .run .rounds; D = a .deadline .rounds; uses = uses-sides p }
+tasks-sides (task-line a b p r) (suc i) h = tasks-sides r i (omega arith)
 
 figures-sides : {s : List ℕ} {f : Figures} → StatesFigures s f → (i : ℕ) → i < length (f .tasks) → TaskSides (taskFigures f i)
 figures-sides (cpus-line a r) i h = tasks-sides r i h

@@ -13,12 +13,12 @@ use Rattle.table.specs.declared.Table.{Table}
 use Rattle.table.specs.declared.Resource.{Resource}
 use Rattle.table.specs.Limits.{maxTasks}
 use Rattle.table.specs.Empty.{emptyTask}
-use Rattle.table.specs.At.{noTask}
-use Rattle.line.specs.declared.Said.the-variants.{Task as TaskLine, Use}
+use Rattle.table.specs.At.{noTask, withAlpha}
+use Rattle.line.specs.declared.Said.the-variants.{Alpha, Task as TaskLine, Use}
 use Rattle.listing.specs.Read.{newTask, withPair, tableAfter}
 use Rattle.basics.specs.Over.{rowTo}
 use Rattle.line.specs.Stated.{UseFigures, heldPair}
-use Rattle.meaning.specs.Figures.{TaskFigures, GoodTaskFigures, GoodTasks, taskOf, taskFor, tableOf}
+use Rattle.meaning.specs.Figures.{AlphaFigure, no-alpha, alpha-of, TaskFigures, GoodTaskFigures, GoodTasks, heldAlpha, taskOf, taskFor, tableOf}
 use Rattle.basics.proofs.RowLaws.{row-is}
 use Rattle.meaning.proofs.PairRows.{putPairs, pairs-stored}
 
@@ -62,12 +62,18 @@ abbrev pub storeUses : Table → ℕ → List UseFigures → Table
 storeUses t tasks [] = t
 storeUses t tasks (u ∷ us) = storeUses (tableAfter t tasks (Use (record { 0 = u .K }) (heldPair u))) tasks us
 
+abbrev pub storeAlpha : Table → ℕ → AlphaFigure → Table
+storeAlpha t tasks no-alpha = t
+storeAlpha t tasks (alpha-of A) = tableAfter t tasks (Alpha A)
+
 abbrev pub storeTasks : Table → ℕ → List TaskFigures → Table
 storeTasks t tasks [] = t
-storeTasks t tasks (x ∷ xs) = storeTasks (storeUses (tableAfter t tasks (TaskLine (x .T .held) (x .C .held) (x .D .held))) (tasks + 1) (x .uses)) (tasks + 1) xs
+storeTasks t tasks (x ∷ xs) =
+    let line = tableAfter t tasks (TaskLine (x .T .held) (x .C .held) (x .D .held)) in
+    storeTasks (storeUses (storeAlpha line (tasks + 1) (x .alpha)) (tasks + 1) (x .uses)) (tasks + 1) xs
 
 abbrev withPairs : Task → List Pair → Task
-withPairs x ps = record { period = x .period; run = x .run; deadline = x .deadline; pairs = ps }
+withPairs x ps = record { period = x .period; run = x .run; deadline = x .deadline; alpha = x .alpha; pairs = ps }
 
 module _ (m n i : ℕ) (row : List Task) (h : i < length row) where
   use-stored : (x : Task) (K : Resource) (p : Pair) → tableAfter (table m n (set row i x)) (i + 1) (Use K p) ≡ table m n (set row i (withPair x (K .0 - 1) p))
@@ -81,20 +87,32 @@ module _ (m n i : ℕ) (row : List Task) (h : i < length row) where
   uses-stored x (u ∷ us) =
       ap (λ (t : Table). storeUses t (i + 1) us) (use-stored x (record { 0 = u .K }) (heldPair u)) ∙ uses-stored (withPair x (u .K - 1) (heldPair u)) us
 
-  task-stored : (x : TaskFigures) → GoodTaskFigures x → storeUses (table m n (set row i (newTask (x .T .held) (x .C .held) (x .D .held)))) (i + 1) (x .uses) ≡ table m n (set row i (taskOf x))
-  unfolding taskOf newTask
-  task-stored x g = uses-stored (newTask (x .T .held) (x .C .held) (x .D .held)) (x .uses) ∙ rw (pairs-stored (g .uses))
+  alpha-stored : (T C D : ℕ) (a : AlphaFigure)
+      → storeAlpha (table m n (set row i (newTask T C D))) (i + 1) a ≡ table m n (set row i (withAlpha (heldAlpha a) (newTask T C D)))
+  unfolding tableAfter newTask
+  alpha-stored T C D no-alpha = refl
+  alpha-stored T C D (alpha-of A) =
+      let e : i + 1 - 1 ≡ i = omega arith in
+      rw (e, getD-set-same row i (newTask T C D) noTask h, set-set row i (newTask T C D) (withAlpha A (newTask T C D)))
 
-rows-stored : (m i : ℕ) (row : List Task) {xs : List TaskFigures} → GoodTasks xs → i + length xs ≤ length row
+  task-stored : (x : TaskFigures) → GoodTaskFigures x
+      → storeUses (storeAlpha (table m n (set row i (newTask (x .T .held) (x .C .held) (x .D .held)))) (i + 1) (x .alpha)) (i + 1) (x .uses) ≡ table m n (set row i (taskOf x))
+  unfolding taskOf newTask
+  task-stored x g =
+      let y = withAlpha (heldAlpha (x .alpha)) (newTask (x .T .held) (x .C .held) (x .D .held)) in
+      ap (λ (t : Table). storeUses t (i + 1) (x .uses)) (alpha-stored (x .T .held) (x .C .held) (x .D .held) (x .alpha))
+      ∙ uses-stored y (x .uses) ∙ rw (pairs-stored (g .uses))
+
+rows-stored : (m i : ℕ) (row : List Task) {last : ℕ} {xs : List TaskFigures} → GoodTasks last xs → i + length xs ≤ length row
     → storeTasks (table m i row) i xs ≡ table m (i + length xs) (putTasks row i xs)
 unfolding tableAfter
 rows-stored m i row GoodTasks.no-task l = rw add-zero
-rows-stored m i row (GoodTasks.one-task {x} {xs} g r) l =
+rows-stored m i row (GoodTasks.one-task {x = x} {xs} g a r) l =
     let e : i + suc (length xs) ≡ i + 1 + length xs = omega arith in
     ap (λ (t : Table). storeTasks t (i + 1) xs) (task-stored m (i + 1) i row (omega arith) x g)
     ∙ rw e (rows-stored m (i + 1) (set row i (taskOf x)) r (omega (arith, length-set row i (taskOf x))))
 
-pub stored : (M : ℕ) {xs : List TaskFigures} → GoodTasks xs → length xs ≤ maxTasks
+pub stored : (M : ℕ) {last : ℕ} {xs : List TaskFigures} → GoodTasks last xs → length xs ≤ maxTasks
     → storeTasks (table M 0 (replicate maxTasks emptyTask)) 0 xs ≡ tableOf (record { M = M; tasks = xs })
 unfolding tableOf
-stored M {xs} g l = rows-stored M 0 (replicate maxTasks emptyTask) g (omega arith) ∙ rw (zero-add, tasks-stored xs l)
+stored M {xs = xs} g l = rows-stored M 0 (replicate maxTasks emptyTask) g (omega arith) ∙ rw (zero-add, tasks-stored xs l)

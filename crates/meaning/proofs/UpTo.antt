@@ -2,7 +2,7 @@
 -- Assumes nothing.
 use Prim.Native.Nat.{ℕ, _+_}
 use mathlib.Core.Path.{_≡_, refl, sym, ap, _∙_}
-use mathlib.Core.Bool.{true}
+use mathlib.Core.Bool.{true, true≢false}
 use mathlib.Core.List.{List, [], _∷_, _++_, append-assoc}
 use native.Mathlib.Omega.{arith}
 use native.Mathlib.Nat.{zero-add}
@@ -19,23 +19,23 @@ use Rattle.line.specs.Line.{countIn, lineSays}
 use Rattle.line.specs.Stated.{Without, none, more, UseFigures}
 use Rattle.line.proofs.WordLaws.{fieldsFrom, form-line}
 use Rattle.line.proofs.StatedLaws.{others-alone, count-in, count-field, cpus-word}
-use Rattle.line.proofs.LineRules.{CpusRules, Line, is-cpus, is-task, is-use, is-not}
+use Rattle.line.proofs.LineRules.{CpusRules, Line, is-cpus, is-task, is-alpha, is-use, is-not}
 use Rattle.line.proofs.Says.{line-is}
 use Rattle.listing.specs.Lines.{lines, endsInLF}
-use Rattle.listing.specs.Read.{fresh, pastAfter, tableAfter, readEnd, readLines}
-use Rattle.meaning.specs.Figures.{Figures, StatesUses, StatesFigures, cpus-line, GoodUses, GoodSoFar, tableOf}
+use Rattle.listing.specs.Read.{noLines, pastAfter, tableAfter, readEnd, readLines}
+use Rattle.meaning.specs.Figures.{no-alpha, Figures, StatesUses, StatesFigures, cpus-line, GoodUses, GoodSoFar, tableOf}
 use Rattle.meaning.specs.Refusals.{leftBy, lineCount}
 use Rattle.meaning.proofs.SplitLaws.{Start, start-of, no-line-of, no-lines, line-split, word-text}
 use Rattle.meaning.proofs.SaysLaws.{says-cpus}
 use Rattle.meaning.proofs.TableLaws.{stored}
 use Rattle.meaning.proofs.StatesRead.{readText, line-read, tasks-read, past-all}
-use Rattle.meaning.proofs.ReadStates.{Stops, at-end, at-line, Stating, states-to}
+use Rattle.meaning.proofs.ReadStates.{Stops, at-end, at-line, Stating, without, no-own, states-to}
 
 -- ---- how far a listing states figures
 
 -- `cpus M` and tasks, and what is left where the reading stops; or it stops at once
 pub data StatesUpTo (s : List ℕ) : Type 0 where
-  stops-first : Stops (fresh 0 0) 1 s → StatesUpTo s
+  stops-first : Stops noLines 1 s → StatesUpTo s
   stops-later : (before left : List ℕ) (f : Figures) → s ≡ before ++ left → StatesFigures before f → GoodSoFar f
       → Stops (leftBy (f .tasks)) (2 + lineCount (f .tasks)) left → StatesUpTo s
 
@@ -45,13 +45,13 @@ no-uses StatesUses.no-use GoodUses.no-use e = (refl, refl)
 no-uses (StatesUses.use-line a r) (GoodUses.one-use x y g z q) e = absurd (omega (arith, g .longest-least, g .longest-total))
 
 cpus-states : {s l : List ℕ} {ls : List (List ℕ)} (a : Start s l ls) (M : ℕ) → form (bytes "cpus") 2 l ≡ true → CpusRules (countIn l 1) M
-    → Stating (fresh 0 0) 2 (a .rest) → StatesUpTo s
+    → Stating noLines 2 (a .rest) no-alpha → StatesUpTo s
 cpus-states {l = l} a M f r m =
     let n = no-uses (m .states-uses) (m .good-uses) refl in
     let line = lineOf "cpus" (fieldsFrom 1 0 (others l)) in
     let g : Figures = record { M = M; tasks = m .tasks } in
     stops-later (line ++ m .second) (m .left) g
-    (a .text ∙ word-text (a .rest) (form-line "cpus" 1 l (a .clean) f) ∙ rw (m .text, n .0) (sym (append-assoc line (m .second) (m .left))))
+    (a .text ∙ word-text (a .rest) (form-line "cpus" 1 l (a .clean) f) ∙ rw (no-own m, n .0) (sym (append-assoc line (m .second) (m .left))))
     (cpus-line (count-in (others-alone l 0) (r .field)) (m .states-tasks))
     (record { cpus-least = r .least; cpus-most = r .most; tasks-most = omega (arith, m .few); tasks = m .good-tasks })
     (rw (← past-all (m .tasks)) (rw (n .1, zero-add (lineCount (m .tasks))) at (m .stops)))
@@ -60,26 +60,27 @@ pub states-up-to : (s : List ℕ) → StatesUpTo s
 unfolding pastAfter
 states-up-to s = go (lines s) refl
   where
-    line : (l : List ℕ) (ls : List (List ℕ)) (a : Start s l ls) (x : Said) → lineSays (fresh 0 0) 1 l ≡ x → Line (fresh 0 0) 1 l x → StatesUpTo s
-    line l ls a _ d (is-cpus {M} f e r) = cpus-states a M f r (states-to ls (a .rest) (fresh 0 0) 2 (a .left) (omega arith) (omega arith))
+    line : (l : List ℕ) (ls : List (List ℕ)) (a : Start s l ls) (x : Said) → lineSays noLines 1 l ≡ x → Line noLines 1 l x → StatesUpTo s
+    line l ls a _ d (is-cpus {M} f e r) = cpus-states a M f r (without refl (states-to ls (a .rest) noLines 2 (a .left) (omega arith) (omega arith)))
     line l ls a _ d (is-task f e r) = absurd (omega arith)
+    line l ls a _ d (is-alpha f e r) = absurd (true≢false (sym e))
     line l ls a _ d (is-use f e r) = absurd (omega arith)
     line l ls a _ d (is-not r) = stops-first (at-line l (a .rest) r (a .text) (a .clean) d)
 
     go : (ls : List (List ℕ)) → lines s ≡ ls → StatesUpTo s
     go [] e = stops-first (at-end (no-line-of s e))
-    go (l ∷ ls) e = line l ls (start-of s l ls e) (lineSays (fresh 0 0) 1 l) refl (line-is (fresh 0 0) 1 l)
+    go (l ∷ ls) e = line l ls (start-of s l ls e) (lineSays noLines 1 l) refl (line-is noLines 1 l)
 
 -- ---- what is read of it
 
 -- after lines that state figures the reading goes on with what is left
 pub figures-read : {s : List ℕ} {f : Figures} (left : List ℕ) → StatesFigures s f → GoodSoFar f
-    → readText emptyTable (fresh 0 0) 1 (s ++ left) ≡ readText (tableOf f) (leftBy (f .tasks)) (2 + lineCount (f .tasks)) left
+    → readText emptyTable noLines 1 (s ++ left) ≡ readText (tableOf f) (leftBy (f .tasks)) (2 + lineCount (f .tasks)) left
 unfolding pastAfter tableAfter emptyTable
 figures-read left (cpus-line {m} {rest} {f} a r) g =
-    ap (readText emptyTable (fresh 0 0) 1) (append-assoc (lineOf "cpus" (m ∷ [])) rest left)
-    ∙ line-read "cpus" (rest ++ left) emptyTable (fresh 0 0) 1 (Cpus (f .M)) cpus-word (more (count-field a) none) (λ l w. says-cpus (fresh 0 0) 1 l w refl a (g .cpus-least) (g .cpus-most))
-    ∙ tasks-read left _ (fresh 0 0) 2 r (g .tasks) (omega arith) (omega (arith, g .tasks-most))
+    ap (readText emptyTable noLines 1) (append-assoc (lineOf "cpus" (m ∷ [])) rest left)
+    ∙ line-read "cpus" (rest ++ left) emptyTable noLines 1 (Cpus (f .M)) cpus-word (more (count-field a) none) (λ l w. says-cpus noLines 1 l w refl a (g .cpus-least) (g .cpus-most))
+    ∙ tasks-read left _ noLines 2 r (g .tasks) (omega arith) (omega (arith, g .tasks-most))
     ∙ rw (past-all (f .tasks), stored (f .M) (g .tasks) (g .tasks-most))
 
 -- where it stops: at a line that is refused, and at the end

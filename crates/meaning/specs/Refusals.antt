@@ -1,7 +1,8 @@
--- Document 01, "Refusals by number", of a listing, said a second way: the number and the place that it calls for. `listing` reads line after line, each after what those before it
+-- Document 01, "Refusals by number", and request 8/12 of document 02, of a listing, said a second way: the number and the place that it calls for. `listing` reads line after line, each after what those before it
 -- left; here each case stands by itself: the lines before a line state figures, and what that line calls for after them is said in `line/specs/Refusals`.
 use Prim.Native.Nat.{ℕ, suc, _+_, _≤_, _<_}
 use mathlib.Core.Path.{_≡_}
+use mathlib.Core.Bool.{Bool, true, false}
 use mathlib.Core.List.{List, [], _∷_, _++_}
 use lib.ListN.{length}
 use Rattle.basics.specs.Exactly.{_exactly-if_}
@@ -10,8 +11,8 @@ use Rattle.table.specs.Faults.{Refuses}
 use Rattle.line.specs.declared.Past.{Past}
 use Rattle.line.specs.Stated.{Without, UseFigures}
 use Rattle.line.specs.Refusals.{LineCallsFor, LineRefused}
-use Rattle.listing.specs.Read.{readListing}
-use Rattle.meaning.specs.Figures.{noFigures, TaskFigures, Figures, StatesFigures, GoodSoFar}
+use Rattle.listing.specs.Read.{noLines, readListing}
+use Rattle.meaning.specs.Figures.{AlphaFigure, no-alpha, alpha-of, TaskFigures, Figures, StatesFigures, lastWith, alphaLines, alphasOf, GoodSoFar}
 
 -- ---- what the lines before a line state
 
@@ -30,17 +31,38 @@ abbrev pub sumCT : List UseFigures → ℕ
 sumCT [] = 0
 sumCT (u ∷ us) = u .CT .held + sumCT us
 
--- what n tasks leave for the next line, x the last of them: n, and of x its C, the last K and the sum of CT
-abbrev pub leftOf : ℕ → TaskFigures → Past
-leftOf n x = record { tasks = n; run = x .C .held; last = record { 0 = lastK 0 (x .uses) }; sum = sumCT (x .uses) }
+-- the alpha "of the last task .. with one", or `last` where none of these has one
+abbrev pub lastAlphaOf : ℕ → List TaskFigures → ℕ
+lastAlphaOf last [] = last
+lastAlphaOf last (x ∷ xs) = lastAlphaOf (lastWith last (x .alpha)) xs
+
+-- no line stands after a task's own
+abbrev pub isFresh : AlphaFigure → List UseFigures → Bool
+isFresh no-alpha [] = true
+isFresh no-alpha (u ∷ us) = false
+isFresh (alpha-of A) us = false
+
+-- what n tasks leave for the next line, x the last of them: n, of x its C, the last K and the sum of CT, how many have an alpha, the last alpha, and whether x is fresh
+abbrev pub leftOf : ℕ → ℕ → ℕ → TaskFigures → Past
+leftOf n alphas alpha x =
+    record {
+      tasks = n;
+      run = x .C .held;
+      last = record { 0 = lastK 0 (x .uses) };
+      sum = sumCT (x .uses);
+      alphas = alphas;
+      alpha = alpha;
+      fresh = isFresh (x .alpha) (x .uses);
+    }
 
 abbrev pub leftBy : List TaskFigures → Past
-leftBy xs = leftOf (length xs) (lastTask noFigures xs)
+leftBy [] = noLines
+leftBy (x ∷ xs) = leftOf (suc (length xs)) (alphasOf (x ∷ xs)) (lastAlphaOf 0 (x ∷ xs)) (lastTask x xs)
 
--- how many lines state these tasks: one for each, and one for each use
+-- how many lines state these tasks: one for each, one for each alpha, and one for each use
 abbrev pub lineCount : List TaskFigures → ℕ
 lineCount [] = 0
-lineCount (x ∷ xs) = suc (length (x .uses) + lineCount xs)
+lineCount (x ∷ xs) = suc (alphaLines (x .alpha) + length (x .uses) + lineCount xs)
 
 -- s is what stands before line n: nothing, or `cpus M` and lines that state these tasks, with nothing said against any
 pub data Before : List ℕ → ℕ → List TaskFigures → Type 0 where
@@ -62,6 +84,8 @@ pub data CallsFor (s : List ℕ) : ℕ → ℕ → Type 0 where
   empty : s ≡ [] → CallsFor s 2 1
   -- "9 comes at the end", "2 for 9"
   no-task : length s ≤ maxListing → Before s 2 [] → CallsFor s 9 2
+  -- 17, "alpha given for some tasks only, place 0, after 9 at a listing's end"
+  alpha-missing : {n : ℕ} {tasks : List TaskFigures} → length s ≤ maxListing → Before s n tasks → 1 ≤ alphasOf tasks → alphasOf tasks < length tasks → CallsFor s 17 0
 
 -- ---- the two agree
 

@@ -34,11 +34,12 @@ fn spaced_word(out: &mut [u8], at: usize, word: Word) -> usize
 
 // A space and a bound.
 fn spaced_bound(out: &mut [u8], at: usize, bound: Bound) -> usize
-    requires { ⌜ at + length (boundText bound) < length (now out) ⌝ }
+    requires { ⌜ at + 11 ≤ length (now out) ⌝ }
     ensures { λ r. ⌜ (r ≡ at + length (32 ∷ boundText bound)) × (now (out .exit) ≡ take at (now (out .entry)) ++ ((32 ∷ boundText bound) ++ drop r (now (out .entry)))) ⌝ }
+    ensures { λ r. ⌜ r ≤ at + 11 ⌝ }
 {
     match bound {
-        Bound::Of(t) => at + put::spaced_count(out, at, t).length(),
+        Bound::Of(t) => at + put::spaced_count(out, at, t as u64).length(),
         Bound::Dash => spaced(out, at, b"-"),
     }
 }
@@ -47,13 +48,14 @@ fn spaced_bound(out: &mut [u8], at: usize, bound: Bound) -> usize
 pub(crate) fn put_row(out: &mut [u8], x: Record, cells: Cells) -> usize
     requires { ⌜ maxRow ≤ length (now out) ⌝ }
     ensures { λ r. ⌜ (r ≡ length (rowOf x cells)) × (now (out .exit) ≡ rowOf x cells ++ drop r (now (out .entry))) ⌝ }
+    ensures { λ r. ⌜ r ≤ maxRow ⌝ }
 {
     let word = cells.0;
     let bound = cells.1;
-    let a = put::put_count(out, x.task.0).length();
+    let a = put::put_count(out, x.task.0 as u64).length();
     let b = spaced_word(out, a, word);
     let c = spaced_bound(out, b, bound);
-    let d = c + put::spaced_count(out, c, x.rounds).length();
+    let d = c + put::spaced_count(out, c, x.rounds as u64).length();
     out[d] = 10;
     d + 1
 }

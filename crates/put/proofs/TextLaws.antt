@@ -1,73 +1,52 @@
 -- Laws of widths and digits.
 -- Assumes nothing.
-use Prim.Native.Nat.{ℕ, zero, suc, _+_, _-_, _/_, _%_, _^_, _≤_, _<_, min, max}
+use Prim.Native.Nat.{ℕ, zero, suc, _+_, _-_, _/_, _%_, _^_, _≤_, _<_}
 use mathlib.Core.Path.{_≡_, refl, sym, _∙_}
-use mathlib.Core.Bool.{Bool, true, false}
+use mathlib.Core.Bool.{Bool}
 use mathlib.Core.List.{List, [], _∷_, _++_, append-assoc}
 use native.Mathlib.Omega.{arith}
-use native.Mathlib.Nat.{le-antisymm, pow-le-pow-right}
+use native.Mathlib.Decide.{decLt}
 use lib.ListN.{length, set, drop, length-append}
-use lib.Dec.{leb, ltb, lit<}
-use borrow.Author.Tests.{ltb-true, ltb-false, leb-true, leb-false}
-use Rattle.basics.specs.Choice.{pick}
+use lib.Dec.{ltb, lit≤}
+use borrow.Author.Tests.{ltb-true, ltb-false}
+use Rattle.basics.specs.Over.{firstTo}
+use Rattle.basics.proofs.FirstIndexLaws.{First, first-is}
 use Rattle.basics.proofs.FillLaws.{Filled}
 use Rattle.put.specs.Text.{digitsOf, width, countText}
 
 -- ---- how wide a number is
 
--- k digits are enough for n, if ten are, and none is too many
-abbrev pub Wide : ℕ → ℕ → Type 0
-Wide n k = (1 ≤ k) × (k ≤ 10) × (10 ^ (k - 1) ≤ max n 1) × (min n 9_999_999_999 < 10 ^ k)
+-- n is below 10 ^ (k + 1)
+abbrev pub tens : ℕ → ℕ → Bool
+tens n k = ltb n (10 ^ suc k)
 
-below : (P : ℕ → Type 0) (n m x y : ℕ) → (n < m → P x) → (m ≤ n → P y) → P (pick (ltb n m) x y)
-below P n m x y f g = go (ltb n m) refl
-  where
-    go : (b : Bool) → ltb n m ≡ b → P (pick b x y)
-    go true e = f (ltb-true n m e)
-    go false e = g (ltb-false n m e)
-
-pub width-wide : (n : ℕ) → Wide n (width n)
-unfolding width
-width-wide n =
-    below (Wide n) n 10 1 _ (λ h. omega arith)
-    (λ l. below (Wide n) n 100 2 _ (λ h. omega arith)
-    (λ l. below (Wide n) n 1_000 3 _ (λ h. omega arith)
-    (λ l. below (Wide n) n 10_000 4 _ (λ h. omega arith)
-    (λ l. below (Wide n) n 100_000 5 _ (λ h. omega arith)
-    (λ l. below (Wide n) n 1_000_000 6 _ (λ h. omega arith)
-    (λ l. below (Wide n) n 10_000_000 7 _ (λ h. omega arith)
-    (λ l. below (Wide n) n 100_000_000 8 _ (λ h. omega arith)
-    (λ l. below (Wide n) n 1_000_000_000 9 10 (λ h. omega arith)
-    (λ l. omega arith)))))))))
+found : (n : ℕ) → First 19 (tens n) (firstTo 19 (tens n))
+found n = first-is 19 (tens n)
 
 pub width-least : (n : ℕ) → 1 ≤ width n
-width-least n = width-wide n .0
+unfolding width
+width-least n = omega arith
 
-pub width-most : (n : ℕ) → width n ≤ 10
-width-most n = width-wide n .1
+pub width-most : (n : ℕ) → width n ≤ 20
+unfolding width
+width-most n = omega (arith, found n .upto)
 
 -- a number of at most k digits is no wider
-wide-few : (n j k : ℕ) → Wide n j → 1 ≤ k → n < 10 ^ k → j ≤ k
-wide-few n j k w l h = go (leb j k) refl
-  where
-    go : (b : Bool) → leb j k ≡ b → j ≤ k
-    go true e = leb-true j k e
-    go false e =
-        let m = leb-false j k e in
-        absurd (omega (arith, pow-le-pow-right {n = 10} (lit< tt) {i = k} {j = j - 1} (omega arith), pow-le-pow-right {n = 10} (lit< tt) {i = 1} {j = k} l))
-
 pub width-few : (n k : ℕ) → 1 ≤ k → n < 10 ^ k → width n ≤ k
-width-few n k l h = wide-few n (width n) k (width-wide n) l h
+unfolding width
+width-few n (suc k) l h = go (decLt k (firstTo 19 (tens n)))
+  where
+    go : Dec (k < firstTo 19 (tens n)) → suc (firstTo 19 (tens n)) ≤ suc k
+    go (yes d) = absurd (omega (arith, ltb-false n (10 ^ suc k) (found n .clear k d)))
+    go (no d) = omega arith
 
-pub width-enough : (n : ℕ) → n < 10_000_000_000 → n < 10 ^ width n
-width-enough n h = omega (arith, width-wide n .3)
-
-wide-same : (n j k : ℕ) → n < 10_000_000_000 → Wide n j → Wide n k → j ≡ k
-wide-same n j k h v w =
-    le-antisymm (wide-few n j k v (w .0) (omega (arith, w .3))) (wide-few n k j w (v .0) (omega (arith, v .3)))
-
-pub width-is : (n k : ℕ) → n < 10_000_000_000 → Wide n k → k ≡ width n
-width-is n k h w = wide-same n k (width n) h w (width-wide n)
+pub width-enough : (n : ℕ) → n < 10 ^ 20 → n < 10 ^ width n
+unfolding width
+width-enough n h = go (decLt (firstTo 19 (tens n)) 19)
+  where
+    go : Dec (firstTo 19 (tens n) < 19) → n < 10 ^ suc (firstTo 19 (tens n))
+    go (yes d) = ltb-true n (10 ^ suc (firstTo 19 (tens n))) (found n .found d)
+    go (no d) = let e : firstTo 19 (tens n) ≡ 19 = omega (arith, found n .upto) in rw e h
 
 -- ---- digits
 
@@ -79,8 +58,12 @@ pub count-length : (n : ℕ) → length (countText n) ≡ width n
 unfolding countText
 count-length n = digits-length (width n) n
 
-pub count-most : (n : ℕ) → length (countText n) ≤ 10
+pub count-most : (n : ℕ) → length (countText n) ≤ 20
 count-most n = omega (arith, count-length n, width-most n)
+
+-- of 32 bits
+pub count-small : (n : ℕ) → n < 4_294_967_296 → length (countText n) ≤ 10
+count-small n h = omega (arith, count-length n, width-few n 10 (lit≤ tt) (omega arith))
 
 pub count-filled : (n : ℕ) {o o₁ : List ℕ} {w : ℕ} → w ≡ width n → o₁ ≡ digitsOf w n ++ drop w o → length o₁ ≡ length o → Filled o o₁ (countText n) w
 unfolding countText

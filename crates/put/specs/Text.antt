@@ -1,10 +1,11 @@
 -- What the writers write (document 01, "The listing"): "no leading zeros in the whole part (one `0` if it is zero), no trailing zeros in
 -- the fraction, and no point if the fraction is zero".
-use Prim.Native.Nat.{ℕ, zero, suc, _/_, _%_, _+_}
+use Prim.Native.Nat.{ℕ, zero, suc, _/_, _%_, _^_, _+_}
 use mathlib.Core.List.{List, [], _∷_, _++_}
 use lib.ListN.{length, take, drop}
 use lib.Dec.{ltb, leb, eqb}
 use Rattle.basics.specs.Choice.{pick}
+use Rattle.basics.specs.Over.{firstTo}
 use Rattle.put.specs.declared.Put.{Put}
 use Rattle.put.specs.declared.Put.the-variants.{Wrote, Short}
 
@@ -13,18 +14,9 @@ abbrev pub digitsOf : ℕ → ℕ → List ℕ
 digitsOf zero n = []
 digitsOf (suc k) n = digitsOf k (n / 10) ++ ((48 + n % 10) ∷ [])
 
--- how many digits n has, 0 having one; no number here has more than ten
+-- how many digits n has: the least k from 1 on with n below 10 ^ k; no number here has more than twenty
 unfoldable pub width : ℕ → ℕ
-width n =
-    pick (ltb n 10) 1
-    (pick (ltb n 100) 2
-    (pick (ltb n 1_000) 3
-    (pick (ltb n 10_000) 4
-    (pick (ltb n 100_000) 5
-    (pick (ltb n 1_000_000) 6
-    (pick (ltb n 10_000_000) 7
-    (pick (ltb n 100_000_000) 8
-    (pick (ltb n 1_000_000_000) 9 10))))))))
+width n = suc (firstTo 19 (λ k. ltb n (10 ^ suc k)))
 
 -- a count: n in decimal, with no leading zeros
 unfoldable pub countText : ℕ → List ℕ

@@ -31,37 +31,19 @@ struct Digits {
 }
 
 // How many digits n has.
-fn width_of(n: u32) -> usize
+fn width_of(n: u64) -> usize
     ensures { λ r. ⌜ r ≡ width n ⌝ }
 {
-    if n < 10 {
-        return 1;
+    let mut power: u64 = 1;
+    let mut k: usize = 0;
+    while k < 19 {
+        power *= 10;
+        k += 1;
+        if n < power {
+            return k;
+        }
     }
-    if n < 100 {
-        return 2;
-    }
-    if n < 1_000 {
-        return 3;
-    }
-    if n < 10_000 {
-        return 4;
-    }
-    if n < 100_000 {
-        return 5;
-    }
-    if n < 1_000_000 {
-        return 6;
-    }
-    if n < 10_000_000 {
-        return 7;
-    }
-    if n < 100_000_000 {
-        return 8;
-    }
-    if n < 1_000_000_000 {
-        return 9;
-    }
-    10
+    20
 }
 
 // The digits of a fraction in thousandths, without the zeros at their end.
@@ -101,7 +83,7 @@ fn fraction_len(x: u32) -> usize
 }
 
 // The last k digits of n, at the start of out.
-fn put_digits(out: &mut [u8], n: u32, k: usize)
+fn put_digits(out: &mut [u8], n: u64, k: usize)
     requires { ⌜ k ≤ length (now out) ⌝ }
     ensures { λ _. ⌜ now (out .exit) ≡ digitsOf k n ++ drop k (now (out .entry)) ⌝ }
 {
@@ -125,7 +107,7 @@ fn put_fraction(out: &mut [u8], x: u32)
         return;
     }
     out[0] = 46;
-    put_digits(&mut out[1..], f.value, k);
+    put_digits(&mut out[1..], f.value as u64, k);
 }
 
 // s at the start of out.
@@ -141,7 +123,7 @@ fn put_bytes(out: &mut [u8], s: &[u8])
 }
 
 // How long a count's text is.
-pub fn count_len(n: u32) -> usize
+pub fn count_len(n: u64) -> usize
     ensures { λ r. ⌜ r ≡ length (countText n) ⌝ }
 {
     width_of(n)
@@ -151,7 +133,7 @@ pub fn count_len(n: u32) -> usize
 pub fn time_len(us: u32) -> usize
     ensures { λ r. ⌜ r ≡ length (timeText us) ⌝ }
 {
-    let w = width_of(us / 1000);
+    let w = width_of((us / 1000) as u64);
     w + fraction_len(us % 1000)
 }
 
@@ -168,7 +150,7 @@ pub fn put_text(out: &mut [u8], s: &[u8]) -> Put
 }
 
 // A count at the start of out.
-pub fn put_count(out: &mut [u8], n: u32) -> Put
+pub fn put_count(out: &mut [u8], n: u64) -> Put
     ensures { λ r. ⌜ (r ≡ putAnswer (countText n) (now (out .entry))) × (now (out .exit) ≡ putInto (countText n) (now (out .entry))) ⌝ }
 {
     let k = width_of(n);
@@ -184,7 +166,7 @@ pub fn put_count(out: &mut [u8], n: u32) -> Put
 pub fn put_time(out: &mut [u8], us: u32) -> Put
     ensures { λ r. ⌜ (r ≡ putAnswer (timeText us) (now (out .entry))) × (now (out .exit) ≡ putInto (timeText us) (now (out .entry))) ⌝ }
 {
-    let whole = us / 1000;
+    let whole = (us / 1000) as u64;
     let rest = us % 1000;
     let w = width_of(whole);
     let n = w + fraction_len(rest);
@@ -197,7 +179,7 @@ pub fn put_time(out: &mut [u8], us: u32) -> Put
 }
 
 // A space and a count, at a place of out, which may be any number: nothing is added to it before it is known to lie in the output, so that no sum is too large.
-pub fn spaced_count(out: &mut [u8], at: usize, n: u32) -> Put
+pub fn spaced_count(out: &mut [u8], at: usize, n: u64) -> Put
     ensures { λ r. ⌜ (r ≡ putAnswerAt (32 ∷ countText n) at (now (out .entry))) × (now (out .exit) ≡ putAt (32 ∷ countText n) at (now (out .entry))) ⌝ }
 {
     let k = width_of(n);

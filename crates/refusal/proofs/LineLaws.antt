@@ -11,10 +11,10 @@ use Rattle.refusal.specs.declared.Source.{Source}
 use Rattle.refusal.specs.declared.Source.the-variants.{Listing, Card}
 use Rattle.refusal.specs.Refusal.{placeWord, refusalWith, refusalText}
 
-pub line-most : (word : List ℕ) (r : Refusal) → length (refusalWith word r) ≤ 29 + length word
+pub line-most : (word : List ℕ) (r : Refusal) → length (refusalWith word r) ≤ 49 + length word
 unfolding refusalWith
 line-most word r = simp length-append (omega (arith, count-most (numberOf (r .fault)), count-most (r .place)))
 
-pub refusal-most : (source : Source) (r : Refusal) → length (refusalText source r) ≤ 36
+pub refusal-most : (source : Source) (r : Refusal) → length (refusalText source r) ≤ 56
 refusal-most Listing r = omega (arith, line-most (placeWord Listing) r)
 refusal-most Card r = omega (arith, line-most (placeWord Card) r)

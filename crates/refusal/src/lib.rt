@@ -22,9 +22,9 @@ fn build(line: &mut [u8], word: &[u8], r: Refusal) -> usize
 {
     let fault = r.fault;
     let a = put::put_text(line, b"refused ").length();
-    let b = a + put::put_count(&mut line[a..], fault.number()).length();
+    let b = a + put::put_count(&mut line[a..], fault.number() as u64).length();
     let c = b + put::put_text(&mut line[b..], word).length();
-    let d = c + put::put_count(&mut line[c..], r.place).length();
+    let d = c + put::put_count(&mut line[c..], r.place as u64).length();
     d + put::put_text(&mut line[d..], b"\n").length()
 }
 

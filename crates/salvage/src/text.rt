@@ -43,7 +43,7 @@ fn put_line(out: &mut [u8], position: u32, code: u8) -> usize
     requires { ⌜ 19 ≤ length (now out) ⌝ }
     ensures { λ r. ⌜ (r ≡ length (wordLine position (codeWord code))) × (now (out .exit) ≡ wordLine position (codeWord code) ++ drop r (now (out .entry))) ⌝ }
 {
-    let a = put::put_count(out, position).length();
+    let a = put::put_count(out, position as u64).length();
     let b = a + put::put_text(&mut out[a..], b" ").length();
     let c = b + put_word(&mut out[b..], code).length();
     c + put::put_text(&mut out[c..], b"\n").length()

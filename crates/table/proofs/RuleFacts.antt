@@ -1,11 +1,11 @@
--- Each test of the rules 4, 5 and 7 is the fact that specs/Refusals.antt names.
+-- Each test of the rules 4, 5, 7, 17 and 18 is the fact that specs/Refusals.antt names.
 -- Assumes nothing.
-use Prim.Native.Nat.{ℕ, _*_}
+use Prim.Native.Nat.{ℕ, _*_, _≤_}
 use mathlib.Core.Path.{_≡_, refl}
-use mathlib.Core.Bool.{Bool, true, false, _&&_}
-use mathlib.Core.Logic.{inl, inr}
+use mathlib.Core.Bool.{Bool, true, false, _&&_, _||_, or-true}
+use mathlib.Core.Logic.{_⊎_, inl, inr}
 use native.Mathlib.Omega.{arith}
-use borrow.Author.Tests.{leb-true, le-leb, eqb-true, ne-eqb}
+use borrow.Author.Tests.{leb-true, le-leb, eqb-true, eq-eqb, ne-eqb}
 use lib.Dec.{leb, eqb}
 use Rattle.basics.specs.Choice.{pick, within}
 use Rattle.basics.specs.Exactly.{_exactly-if_}
@@ -13,7 +13,7 @@ use Rattle.basics.proofs.ChoiceLaws.{and-true, within-in, within-true}
 use Rattle.table.specs.declared.Pair.{Pair}
 use Rattle.table.specs.Limits.{maxTime, maxCount}
 use Rattle.table.specs.Empty.{unusedPair}
-use Rattle.table.specs.Rules.{isTime, timesInRange, timesInOrder, isUnused, usedInRange, pairInRange, totalsFit}
+use Rattle.table.specs.Rules.{isTime, timesInRange, timesInOrder, allOrNone, mayFollow, isUnused, usedInRange, pairInRange, totalsFit}
 use Rattle.table.specs.Refusals.{InRange, TimesInRange, TimesInOrder, UsedInRange, PairInRange, TotalsFit}
 
 pub range-is : (low high x : ℕ) → (within low high x ≡ true) exactly-if InRange low high x
@@ -37,6 +37,26 @@ times-order-is T C D = (
   λ e. let o = and-true (leb C D) (leb D T) e in record { run-deadline = leb-true _ _ (o .0); deadline-period = leb-true _ _ (o .1) },
   λ r. rw (le-leb C D (r .run-deadline), le-leb D T (r .deadline-period)),
 )
+
+-- ---- alpha: in a table `AlphaLaws` says what these come to
+
+either : {P Q : Type 0} (a b : Bool) → (a ≡ true → P) → (b ≡ true → Q) → (a || b) ≡ true → P ⊎ Q
+either true b f g e = inl (f refl)
+either false b f g e = inr (g e)
+
+pub all-or-none-is : (given n : ℕ) → (allOrNone given n ≡ true) exactly-if ((given ≡ 0) ⊎ (given ≡ n))
+all-or-none-is given n = (either (eqb given 0) (eqb given n) (eqb-true given 0) (eqb-true given n), back)
+  where
+    back : (given ≡ 0) ⊎ (given ≡ n) → allOrNone given n ≡ true
+    back (inl e) = rw (eq-eqb given 0 e)
+    back (inr e) = rw (eq-eqb given n e, or-true)
+
+pub may-follow-is : (last A : ℕ) → (mayFollow last A ≡ true) exactly-if ((last ≡ 0) ⊎ (A ≤ last))
+may-follow-is last A = (either (eqb last 0) (leb A last) (eqb-true last 0) (leb-true A last), back)
+  where
+    back : (last ≡ 0) ⊎ (A ≤ last) → mayFollow last A ≡ true
+    back (inl e) = rw (eq-eqb last 0 e)
+    back (inr h) = rw (le-leb A last h, or-true)
 
 -- ---- one pair
 

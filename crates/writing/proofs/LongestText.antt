@@ -4,31 +4,33 @@ use Prim.Native.Nat.{ℕ, suc, _+_, _*_, _≤_}
 use mathlib.Core.Path.{_≡_, refl}
 use mathlib.Core.Bool.{Bool, true, false}
 use mathlib.Core.List.{[], _++_}
+use native.Mathlib.Decide.{ℕ-discrete}
 use native.Mathlib.Omega.{arith}
 use lib.ListN.{length, replicate, length-append}
 use lib.Dec.{ltb, lit≤}
 use borrow.Author.Tests.{ltb-true, ltb-false}
 use Rattle.basics.specs.Choice.{pick, only}
-use Rattle.basics.specs.Over.{sumTo, countTo, joinTo}
+use Rattle.basics.specs.Text.{bytes}
+use Rattle.basics.specs.Over.{sumTo, countTo, firstTo, joinTo}
 use Rattle.basics.proofs.SumLaws.{sum-le, sum-add, sum-scale}
 use Rattle.basics.proofs.JoinLaws.{join-length, join-bound}
 use Rattle.table.specs.declared.Pair.{Pair}
 use Rattle.table.specs.declared.Task.{Task}
 use Rattle.table.specs.declared.Table.{Table}
 use Rattle.table.specs.declared.Checked.the-variants.{Fine}
-use Rattle.table.specs.Limits.{maxResources}
-use Rattle.table.specs.At.{aPair, aTask, taskAt, pairOf, totalOf}
+use Rattle.table.specs.Limits.{maxResources, maxAlpha}
+use Rattle.table.specs.At.{aPair, aTask, withAlpha, taskAt, pairOf, totalOf}
 use Rattle.table.specs.Faults.{firstFault}
-use Rattle.table.specs.Rules.{timesInRange, timesInOrder, timesFault, isUnused, usedInRange, pairInRange, totalsFit, pairFault, pairsFault, taskFault, tasksFault, tableFault}
+use Rattle.table.specs.Rules.{timesInRange, timesInOrder, alphaFault, isUnused, usedInRange, pairInRange, totalsFit, pairFault, pairsFault, taskFault, lastAlpha, tasksFault, tableFault}
 use Rattle.table.specs.Accepted.{GoodTask}
 use Rattle.table.proofs.RuleLaws.{PairBounds, pair-bounds}
 use Rattle.table.proofs.Acceptance.{fine-accepted}
 use Rattle.put.specs.Text.{width, countText, timeText}
 use Rattle.put.proofs.TextLaws.{count-length, width-few}
 use Rattle.put.proofs.TimeLaws.{time-few}
-use Rattle.writing.specs.Write.{useText, pairText, timesText, taskText, textOf}
-use Rattle.writing.specs.Longest.{maxTaskText, maxUseText, twoDigits, maxLong, maxUsesText, maxText, LongestText}
-use Rattle.writing.proofs.WriteLaws.{use-length, times-length, cpusText, cpus-length}
+use Rattle.writing.specs.Write.{useText, pairText, timesText, alphaText, ownText, taskText, textOf}
+use Rattle.writing.specs.Longest.{maxTaskText, maxAlphaText, maxUseText, twoDigits, maxLong, maxUsesText, maxText, LongestText}
+use Rattle.writing.proofs.WriteLaws.{use-length, times-length, counted-length, alpha-none, alpha-some, cpusText, cpus-length}
 
 -- ---- the `use` lines of a task
 
@@ -69,7 +71,7 @@ long-few x g =
     omega (arith, g .times, g .totals, sum-scale maxResources 1_000_001 one, sum-le maxResources (λ k. 1_000_001 * one k) (totalOf x) (λ k h. long-takes x k))
 
 short-lines : sumTo maxResources (λ k. 26 + width (suc k)) ≡ maxResources * maxUseText + twoDigits
-unfolding sumTo width
+unfolding sumTo firstTo width
 short-lines = refl
 
 uses-few : (x : Task) → GoodTask x → length (joinTo maxResources (pairText x)) ≤ maxUsesText
@@ -88,13 +90,23 @@ uses-few x g =
 
 -- ---- the lines of a task, and of a table
 
-task-few : (x : Task) → GoodTask x → length (taskText x) ≤ maxTaskText + maxUsesText
+-- 7 bytes besides A
+alpha-few : (A : ℕ) → A ≤ maxAlpha → length (alphaText A) ≤ maxAlphaText
+alpha-few A h = go (ℕ-discrete A 0)
+  where
+    go : Dec (A ≡ 0) → length (alphaText A) ≤ maxAlphaText
+    go (yes e) = rw (alpha-none A e) (omega arith)
+    go (no e) = rw (alpha-some A e) (omega (arith, counted-length (bytes "alpha") A, count-length A, width-few A 2 (lit≤ tt) (omega arith)))
+
+task-few : (x : Task) → GoodTask x → length (taskText x) ≤ maxTaskText + maxAlphaText + maxUsesText
 unfolding taskText
 task-few x g =
     omega (
       arith,
       g .times,
-      length-append (timesText x) (joinTo maxResources (pairText x)),
+      length-append (ownText x) (joinTo maxResources (pairText x)),
+      length-append (timesText x) (alphaText (x .alpha)),
+      alpha-few (x .alpha) (g .alpha-most),
       times-length x,
       time-few (x .period) 4 (lit≤ tt) (omega arith),
       time-few (x .run) 4 (lit≤ tt) (omega arith),
@@ -113,23 +125,23 @@ text-most t e =
       cpus-length t,
       count-length (t .cpus),
       width-few (t .cpus) 2 (lit≤ tt) (omega (arith, a .cpus-most)),
-      join-bound (t .n) (maxTaskText + maxUsesText) (λ i. taskText (taskAt t i)) (λ i h. task-few (taskAt t i) (a .task i h)),
+      join-bound (t .n) (maxTaskText + maxAlphaText + maxUsesText) (λ i. taskText (taskAt t i)) (λ i h. task-few (taskAt t i) (a .task i h)),
     )
 
 -- ---- a table with the longest text
 
 abbrev longestTask : Task
-longestTask = aTask 9_999_999 9_999_999 9_999_999 (replicate 9 (aPair 1_000 1_000_001 1_000_001) ++ replicate 7 (aPair 1_000 100_001 100_001))
+longestTask = withAlpha 64 (aTask 9_999_999 9_999_999 9_999_999 (replicate 9 (aPair 1_000 1_000_001 1_000_001) ++ replicate 7 (aPair 1_000 100_001 100_001)))
 
 abbrev longestTable : Table
 longestTable = record { cpus = 64; n = 32; tasks = replicate 32 longestTask }
 
 longest-fine : tableFault longestTable ≡ Fine
-unfolding sumTo firstFault timesInRange timesInOrder timesFault isUnused usedInRange pairInRange totalsFit pairFault pairsFault taskFault tasksFault tableFault
+unfolding sumTo firstFault timesInRange timesInOrder alphaFault isUnused usedInRange pairInRange totalsFit pairFault pairsFault taskFault lastAlpha tasksFault tableFault
 longest-fine = refl
 
 text-reached : length (textOf longestTable) ≡ maxText
-unfolding width countText timeText joinTo useText pairText taskText textOf
+unfolding firstTo width countText timeText joinTo useText pairText alphaText taskText textOf
 text-reached = refl
 
 pub longest-text : LongestText

@@ -7,21 +7,22 @@ use mathlib.Core.List.{List, [], _∷_, _++_, append-assoc, append-nil}
 use native.Mathlib.Omega.{arith}
 use native.Mathlib.Numerals.{add-one}
 use lib.ListN.{length, drop, length-append}
+use borrow.Author.Tests.{lt-ltb, le-ltb}
 use lib.Dec.{ltb}
 use Rattle.basics.specs.Choice.{pick}
 use Rattle.basics.specs.Over.{joinTo}
-use Rattle.basics.specs.Text.{ending, lineOf}
+use Rattle.basics.specs.Text.{bytes, ending, lineOf}
 use Rattle.basics.proofs.JoinLaws.{join-none, join-more, join-room}
 use Rattle.basics.proofs.FillLaws.{restAt, backAt, Filled, filled-part}
 use Rattle.put.specs.Text.{countText, timeText}
 use Rattle.put.proofs.PlaceLaws.{filled-within}
-use Rattle.put.proofs.TextLaws.{count-length, width-most}
+use Rattle.put.proofs.TextLaws.{count-small}
 use Rattle.put.proofs.TimeLaws.{time-length}
 use Rattle.table.specs.declared.Pair.{Pair}
 use Rattle.table.specs.declared.Task.{Task}
 use Rattle.table.specs.declared.Table.{Table}
 use Rattle.table.specs.At.{taskAt}
-use Rattle.writing.specs.Write.{useText, timesText, taskText}
+use Rattle.writing.specs.Write.{useText, timesText, alphaText, ownText, taskText}
 
 -- ---- texts f 0, f 1, .., one after the other, behind h
 
@@ -63,9 +64,8 @@ module _ (K : ℕ) (p : Pair) where
   unfolding useText
   use-length = omega (arith, ending-length (countText K ∷ countText (p .requests) ∷ timeText (p .longest) ∷ timeText (p .total) ∷ []))
 
-  pub use-most : p .longest < 4_294_967_296 → p .total < 4_294_967_296 → length (useText K p) ≤ 50
-  use-most c ct =
-      omega (arith, use-length, count-length K, width-most K, count-length (p .requests), width-most (p .requests), time-length (p .longest) c, time-length (p .total) ct)
+  pub use-most : K < 4_294_967_296 → p .requests < 4_294_967_296 → p .longest < 4_294_967_296 → p .total < 4_294_967_296 → length (useText K p) ≤ 50
+  use-most k n c ct = omega (arith, use-length, count-small K k, count-small (p .requests) n, time-length (p .longest) c, time-length (p .total) ct)
 
 module _ (x : Task) where
   pub times-length : length (timesText x) ≡ 8 + length (timeText (x .period)) + length (timeText (x .run)) + length (timeText (x .deadline))
@@ -73,6 +73,19 @@ module _ (x : Task) where
 
   pub times-most : x .period < 4_294_967_296 → x .run < 4_294_967_296 → x .deadline < 4_294_967_296 → length (timesText x) ≤ 41
   times-most t c d = omega (arith, times-length, time-length (x .period) t, time-length (x .run) c, time-length (x .deadline) d)
+
+-- a line of a word and a count
+pub counted-length : (word : List ℕ) (n : ℕ) → length (word ++ ending (countText n ∷ [])) ≡ length word + 2 + length (countText n)
+counted-length word n = length-append word (ending (countText n ∷ [])) ∙ omega (arith, ending-length (countText n ∷ []))
+
+module _ (A : ℕ) where
+  pub alpha-none : A ≡ 0 → alphaText A ≡ []
+  unfolding alphaText
+  alpha-none e = rw (le-ltb 0 A (omega arith))
+
+  pub alpha-some : (A ≡ 0 → ⊥) → alphaText A ≡ lineOf "alpha" (countText A ∷ [])
+  unfolding alphaText
+  alpha-some n = rw (lt-ltb 0 A (omega arith))
 
 module _ (t : Table) where
   -- the first line
@@ -84,7 +97,7 @@ module _ (t : Table) where
   linesOf i = taskText (taskAt t i)
 
   pub cpus-length : length cpusText ≡ 6 + length (countText (t .cpus))
-  cpus-length = omega (arith, ending-length (countText (t .cpus) ∷ []))
+  cpus-length = counted-length (bytes "cpus") (t .cpus)
 
 -- ---- the line of a pair
 

@@ -18,6 +18,10 @@ maxCpusText = 8
 abbrev pub maxTaskText : ℕ
 maxTaskText = 32
 
+-- `alpha 64`
+abbrev pub maxAlphaText : ℕ
+maxAlphaText = 9
+
 -- `use 9 1000 999.999 999.999`: K has one digit, and CT, so c too, is at most 1,000 ms
 abbrev pub maxUseText : ℕ
 maxUseText = 27
@@ -37,7 +41,7 @@ maxUsesText = maxResources * maxUseText + twoDigits + 2 * maxLong
 -- ---- the bytes of a text
 
 abbrev pub maxText : ℕ
-maxText = maxCpusText + maxTasks * (maxTaskText + maxUsesText)
+maxText = maxCpusText + maxTasks * (maxTaskText + maxAlphaText + maxUsesText)
 
 -- no text of an accepted table is longer, and one is as long
 pub record LongestText : Type 0 where

@@ -1,4 +1,4 @@
--- A table to a listing (document 01, "The listing"): the text of a table, and what the writer answers.
+-- A table to a listing (document 01, "The listing"; `alpha`: request 8/12 of document 02): the text of a table, and what the writer answers.
 use Prim.Native.Nat.{ℕ, suc}
 use mathlib.Core.List.{List, [], _∷_, _++_}
 use lib.ListN.{length}
@@ -32,8 +32,15 @@ pairText x k = pick (ltb 0 (pairOf x k .requests)) (useText (suc k) (pairOf x k)
 abbrev pub timesText : Task → List ℕ
 timesText x = lineOf "task" (timeText (x .period) ∷ timeText (x .run) ∷ timeText (x .deadline) ∷ [])
 
+-- "Add an `alpha A` line right after each task line": of a task that has one
+unfoldable pub alphaText : ℕ → List ℕ
+alphaText A = pick (ltb 0 A) (lineOf "alpha" (countText A ∷ [])) []
+
+abbrev pub ownText : Task → List ℕ
+ownText x = timesText x ++ alphaText (x .alpha)
+
 unfoldable pub taskText : Task → List ℕ
-taskText x = timesText x ++ joinTo maxResources (pairText x)
+taskText x = ownText x ++ joinTo maxResources (pairText x)
 
 -- "First `cpus M`. Then each task .., followed by its `use` lines"
 unfoldable pub textOf : Table → List ℕ

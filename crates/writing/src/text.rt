@@ -8,8 +8,9 @@ ghost use Rattle.basics.specs.Choice.{pick};
 ghost use Rattle.table.specs.Limits.{maxResources};
 ghost use Rattle.table.specs.declared.Checked.the-variants.{Fine};
 ghost use Rattle.table.specs.Rules.{tableFault};
-ghost use Rattle.put.specs.Text.{timeText};
-ghost use Rattle.writing.specs.Write.{useText, timesText, taskText, textOf};
+ghost use Rattle.basics.specs.Text.{ending};
+ghost use Rattle.put.specs.Text.{countText, timeText};
+ghost use Rattle.writing.specs.Write.{useText, timesText, alphaText, ownText, taskText, textOf};
 use table::Pair;
 use table::Resource;
 use table::Table;
@@ -38,8 +39,8 @@ fn use_len(k: Resource, p: Pair) -> usize
     ensures { λ r. ⌜ r ≤ 50 ⌝ }
 {
     8
-        + put::count_len(k.0)
-        + put::count_len(p.requests)
+        + put::count_len(k.0 as u64)
+        + put::count_len(p.requests as u64)
         + put::time_len(p.longest)
         + put::time_len(p.total)
 }
@@ -50,8 +51,8 @@ fn put_use(out: &mut [u8], k: Resource, p: Pair) -> usize
     ensures { λ r. ⌜ (r ≡ length (useText (k .0) p)) × (now (out .exit) ≡ useText (k .0) p ++ drop r (now (out .entry))) ⌝ }
 {
     let a = put(out, 0, b"use");
-    let b = a + put::spaced_count(out, a, k.0).length();
-    let c = b + put::spaced_count(out, b, p.requests).length();
+    let b = a + put::spaced_count(out, a, k.0 as u64).length();
+    let c = b + put::spaced_count(out, b, p.requests as u64).length();
     let d = spaced_time(out, c, p.longest);
     let e = spaced_time(out, d, p.total);
     put(out, e, b"\n")
@@ -105,11 +106,51 @@ fn put_line(out: &mut [u8], x: Task) -> usize
     put(out, d, b"\n")
 }
 
+// A line of a word and a count.
+fn put_counted(out: &mut [u8], word: &[u8], n: u32) -> usize
+    requires { ⌜ length (now word ++ ending (countText n ∷ [])) ≤ length (now out) ⌝ }
+    ensures { λ r. ⌜ (r ≡ length (now (word .entry) ++ ending (countText n ∷ []))) × (now (out .exit) ≡ (now (word .entry) ++ ending (countText n ∷ [])) ++ drop r (now (out .entry))) ⌝ }
+{
+    let a = put(out, 0, word);
+    let b = a + put::spaced_count(out, a, n as u64).length();
+    put(out, b, b"\n")
+}
+
+fn alpha_len(alpha: u32) -> usize
+    ensures { λ r. ⌜ r ≡ length (alphaText alpha) ⌝ }
+    ensures { λ r. ⌜ r ≤ 17 ⌝ }
+{
+    if alpha == 0 {
+        return 0;
+    }
+    7 + put::count_len(alpha as u64)
+}
+
+// `alpha A`; nothing where there is none.
+fn put_alpha(out: &mut [u8], alpha: u32) -> usize
+    requires { ⌜ length (alphaText alpha) ≤ length (now out) ⌝ }
+    ensures { λ r. ⌜ (r ≡ length (alphaText alpha)) × (now (out .exit) ≡ alphaText alpha ++ drop r (now (out .entry))) ⌝ }
+{
+    if alpha == 0 {
+        return 0;
+    }
+    put_counted(out, b"alpha", alpha)
+}
+
+// A task's own line, and that of its alpha.
+fn put_own(out: &mut [u8], x: Task) -> usize
+    requires { ⌜ length (ownText x) ≤ length (now out) ⌝ }
+    ensures { λ r. ⌜ (r ≡ length (ownText x)) × (now (out .exit) ≡ ownText x ++ drop r (now (out .entry))) ⌝ }
+{
+    let at = put_line(out, x);
+    at + put_alpha(&mut out[at..], x.alpha)
+}
+
 fn task_len(x: Task) -> usize
     ensures { λ r. ⌜ r ≡ length (taskText x) ⌝ }
-    ensures { λ r. ⌜ r ≤ 41 + maxResources * 50 ⌝ }
+    ensures { λ r. ⌜ r ≤ 58 + maxResources * 50 ⌝ }
 {
-    let mut sum = line_len(x);
+    let mut sum = line_len(x) + alpha_len(x.alpha);
     let mut k: usize = 0;
     while k < Table::MAX_RESOURCES {
         let p = x.pairs[k];
@@ -119,12 +160,12 @@ fn task_len(x: Task) -> usize
     sum
 }
 
-// A task's line and the lines of its pairs, each into the rest of the output.
+// A task's own lines and the lines of its pairs, each into the rest of the output.
 fn put_task(out: &mut [u8], x: Task) -> usize
     requires { ⌜ length (taskText x) ≤ length (now out) ⌝ }
     ensures { λ r. ⌜ (r ≡ length (taskText x)) × (now (out .exit) ≡ taskText x ++ drop r (now (out .entry))) ⌝ }
 {
-    let mut at = put_line(out, x);
+    let mut at = put_own(out, x);
     let mut k: usize = 0;
     while k < Table::MAX_RESOURCES {
         let p = x.pairs[k];
@@ -140,7 +181,7 @@ pub(crate) fn table_len(t: Table) -> usize
     ensures { λ r. ⌜ r ≡ length (textOf t) ⌝ }
 {
     let n = t.n;
-    let mut sum = 6 + put::count_len(t.cpus);
+    let mut sum = 6 + put::count_len(t.cpus as u64);
     let mut i: usize = 0;
     while i < n {
         let x = t.tasks[i];
@@ -156,9 +197,7 @@ pub(crate) fn put_table(out: &mut [u8], t: Table) -> usize
     ensures { λ r. ⌜ (r ≡ length (textOf t)) × (now (out .exit) ≡ textOf t ++ drop r (now (out .entry))) ⌝ }
 {
     let n = t.n;
-    let a = put(out, 0, b"cpus");
-    let b = a + put::spaced_count(out, a, t.cpus).length();
-    let mut at = put(out, b, b"\n");
+    let mut at = put_counted(out, b"cpus", t.cpus);
     let mut i: usize = 0;
     while i < n {
         let x = t.tasks[i];

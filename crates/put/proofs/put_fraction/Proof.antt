@@ -21,11 +21,11 @@ room c =
     let f = c .before .fraction-of in
     omega (arith, fraction-length (c .before .before .before .args .x) (f .result .count) (f .result .value) (f .ensures .0) (c .if1 .left))
 
-filled : (c : tie.After-put-digits) → let f = c .before .before .before in
+filled : (c : tie.After-put-digits) → let f = c .before .before .before .before in
     let a = f .before .before .args in
     Filled (a .out .now) (backAt (set (a .out .now) 0 46) 1 (c .put-digits .last .0)) (fractionText (a .x)) (1 + f .fraction-of .result .count)
 filled c =
-    let e = c .before .before in
+    let e = c .before .before .before in
     let f = e .before .fraction-of in
     let k = f .result .count in
     let y = f .result .value in
@@ -44,8 +44,8 @@ part-put-digits-start c = simp length-set (omega (arith, room c))
 
 put-digits-requires : tie.Need-put-digits-requires
 put-digits-requires c κs =
-    let o = c .before .before .before .before .args .out .now in
-    omega (arith, room (c .before), rest-length (set o 0 46) 1, length-set o 0 46)
+    let o = c .before .before .before .before .before .args .out .now in
+    omega (arith, room (c .before .before), rest-length (set o 0 46) 1, length-set o 0 46)
 
 same-length : tie.Need-same-length
 same-length c = filled (c .before .before) .kept
@@ -62,6 +62,7 @@ put-fraction-spec =
     slice-write-out
     sub-put-digits
     part-put-digits-start
+    (λ c. search needs)
     (λ c. search needs)
     put-digits-requires
     same-length

@@ -40,6 +40,7 @@ pub put-time-spec : {M : Type 1} → statement M
 put-time-spec =
     tie.close
     (tie.spec
+    (λ c. search needs)
     (λ c κs. search needs)
     (λ c κs. search needs)
     add-n

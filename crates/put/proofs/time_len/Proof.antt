@@ -12,4 +12,4 @@ add-result : tie.Need-add-result
 add-result c = omega (arith, returns c, time-length (c .before .before .args .us) (omega arith))
 
 pub time-len-spec : {M : Type 1} → statement M
-time-len-spec = tie.close (tie.spec (λ c κs. search needs) (λ c κs. search needs) add-result returns)
+time-len-spec = tie.close (tie.spec (λ c. search needs) (λ c κs. search needs) (λ c κs. search needs) add-result returns)

@@ -1,39 +1,54 @@
--- `put::width_of` meets its contract: what the tests say of n leaves one width. Assumes nothing.
-use Rattle.put.proofs.TextLaws.{width-is}
+-- `put::width_of` meets its contract. The loop's invariant: the power is 10 ^ k, and n is below none up to it. Assumes nothing.
+use Prim.Native.Nat.{suc, _+_, _-_, _*_, _^_, _≤_}
+use mathlib.Core.Path.{_≡_}
+use native.Mathlib.Nat.{pow-suc, pow-le-pow-right}
+use native.Mathlib.Numerals.{add-one}
 use native.Mathlib.Omega.{arith}
+use borrow.Author.Needs.{needs}
+use borrow.Author.Tests.{lt-ltb, le-ltb}
+use lib.Dec.{lit<}
+use Rattle.basics.specs.Over.{firstTo}
+use Rattle.basics.proofs.FirstIndexLaws.{first-none, first-more, first-here}
+use Rattle.put.specs.Text.{width}
+use Rattle.put.proofs.TextLaws.{tens}
 use Rattle.put.proofs.width_of.Statement.{statement}
 use Rattle.put.proofs.width_of.Tie as tie
 
-returns : tie.Need-returns
-returns c = width-is _ 1 (omega arith) (omega arith)
+abbrev Inv-loop : tie.InvT-loop
+Inv-loop n power₀ k₀ power k = (k ≤ 19) × (power ≡ 10 ^ k) × (firstTo k (tens n) ≡ k)
 
-returns-2 : tie.Need-returns-2
-returns-2 c = width-is _ 2 (omega arith) (omega arith)
+abbrev μ-loop : tie.MeasureT-loop
+μ-loop n power₀ k₀ power k = 19 - k
 
-returns-3 : tie.Need-returns-3
-returns-3 c = width-is _ 3 (omega arith) (omega arith)
+loop-holds : tie.Need-loop-holds Inv-loop μ-loop
+loop-holds c = (omega arith, omega arith, first-none _)
 
-returns-4 : tie.Need-returns-4
-returns-4 c = width-is _ 4 (omega arith) (omega arith)
+mul-power : tie.Need-mul-power Inv-loop μ-loop
+mul-power c =
+    let k = c .before .loop .k in
+    omega (arith, pow-suc 10 k, pow-le-pow-right {n = 10} (lit< tt) {i = suc k} {j = 19} (omega arith))
 
-returns-5 : tie.Need-returns-5
-returns-5 c = width-is _ 5 (omega arith) (omega arith)
+returns : tie.Need-returns Inv-loop μ-loop
+unfolding width
+returns c =
+    let l = c .before .before .loop in
+    let n = c .before .before .before .args .n in
+    omega (arith, first-here 19 (l .k) (tens n) (omega arith) (l .inv .2) (lt-ltb n (10 ^ suc (l .k)) (omega (arith, pow-suc 10 (l .k)))))
 
-returns-6 : tie.Need-returns-6
-returns-6 c = width-is _ 6 (omega arith) (omega arith)
+loop-again : tie.Need-loop-again Inv-loop μ-loop
+loop-again c =
+    let l = c .before .before .loop in
+    let n = c .before .before .before .args .n in
+    (omega arith, rw add-one (omega (arith, pow-suc 10 (l .k))), first-more (l .k) (tens n) (l .inv .2) (le-ltb n (10 ^ suc (l .k)) (omega (arith, pow-suc 10 (l .k)))))
 
-returns-7 : tie.Need-returns-7
-returns-7 c = width-is _ 7 (omega arith) (omega arith)
-
-returns-8 : tie.Need-returns-8
-returns-8 c = width-is _ 8 (omega arith) (omega arith)
-
-returns-9 : tie.Need-returns-9
-returns-9 c = width-is _ 9 (omega arith) (omega arith)
-
-returns-10 : tie.Need-returns-10
-returns-10 c = width-is _ 10 (omega arith) (omega arith)
+returns-2 : tie.Need-returns-2 Inv-loop μ-loop
+unfolding width
+returns-2 c =
+    let l = c .before .loop in
+    let e : l .k ≡ 19 = omega arith in
+    omega (arith, rw e at (l .inv .2))
 
 pub width-of-spec : {M : Type 1} → statement M
 width-of-spec =
-    tie.close (tie.spec returns returns-2 returns-3 returns-4 returns-5 returns-6 returns-7 returns-8 returns-9 returns-10)
+    tie.close
+    (tie.spec Inv-loop μ-loop loop-holds mul-power (λ c. search needs) returns (λ c. search needs) loop-again returns-2)

@@ -1,4 +1,4 @@
--- `refusal::build` meets its contract: each part is put where the one before it ended, at most 36 bytes. Assumes nothing.
+-- `refusal::build` meets its contract: each part is put where the one before it ended, at most 56 bytes. Assumes nothing.
 use mathlib.Core.List.{append-assoc}
 use native.Mathlib.Omega.{arith}
 use Rattle.basics.specs.Text.{bytes}
@@ -21,7 +21,7 @@ abbrev start₃ : tie.After-length3 → tie.Start
 start₃ c = start₂ (c .before .before .before .before .before)
 
 abbrev start₄ : tie.After-length4 → tie.Start
-start₄ c = start₃ (c .before .before .before .before .before)
+start₄ c = start₃ (c .before .before .before .before .before .before)
 
 abbrev start₅ : tie.After-length5 → tie.Start
 start₅ c = start₄ (c .before .before .before .before .before .before)
@@ -32,15 +32,15 @@ one c =
     let w = c .before .before .before in
     upto-first (bytes "refused ") (w .put-text .kept .0) (written-all (bytes "refused ") _ (omega (arith, start c .pre .0)) (c .length .ensures) (w .put-text .ensures .0) (w .put-text .ensures .1)) (omega arith)
 
-abbrev two : (c : tie.After-length2) → Upto (start₂ c .args .line .now) 18
+abbrev two : (c : tie.After-length2) → Upto (start₂ c .args .line .now) 28
 two c =
     let w = c .before .before .before in
     let u = one (w .before .before .before) in
     let n = w .before .number .result in
     upto-more u (countText n) (w .put-count .kept .0)
-    (written-all (countText n) _ (omega (arith, count-most n, upto-room 10 u (omega (arith, start₂ c .pre .0)))) (c .length2 .ensures) (w .put-count .ensures .0) (w .put-count .ensures .1)) (omega (arith, start₂ c .pre .0)) (omega (arith, count-most n))
+    (written-all (countText n) _ (omega (arith, count-most n, upto-room 20 u (omega (arith, start₂ c .pre .0)))) (c .length2 .ensures) (w .put-count .ensures .0) (w .put-count .ensures .1)) (omega (arith, start₂ c .pre .0)) (omega (arith, count-most n))
 
-abbrev three : (c : tie.After-length3) → Upto (start₃ c .args .line .now) 25
+abbrev three : (c : tie.After-length3) → Upto (start₃ c .args .line .now) 35
 three c =
     let w = c .before .before .before in
     let u = two (w .before .before) in
@@ -48,15 +48,15 @@ three c =
     upto-more u t (w .put-text2 .kept .0)
     (written-all t _ (omega (arith, start₃ c .pre .1, upto-room 7 u (omega (arith, start₃ c .pre .0)))) (c .length3 .ensures) (w .put-text2 .ensures .0) (w .put-text2 .ensures .1)) (omega (arith, start₃ c .pre .0)) (omega (arith, start₃ c .pre .1))
 
-abbrev four : (c : tie.After-length4) → Upto (start₄ c .args .line .now) 35
+abbrev four : (c : tie.After-length4) → Upto (start₄ c .args .line .now) 55
 four c =
     let w = c .before .before .before in
-    let u = three (w .before .before) in
+    let u = three (w .before .before .before) in
     let n = start₄ c .args .r .place in
     upto-more u (countText n) (w .put-count2 .kept .0)
-    (written-all (countText n) _ (omega (arith, count-most n, upto-room 10 u (omega (arith, start₄ c .pre .0)))) (c .length4 .ensures) (w .put-count2 .ensures .0) (w .put-count2 .ensures .1)) (omega (arith, start₄ c .pre .0)) (omega (arith, count-most n))
+    (written-all (countText n) _ (omega (arith, count-most n, upto-room 20 u (omega (arith, start₄ c .pre .0)))) (c .length4 .ensures) (w .put-count2 .ensures .0) (w .put-count2 .ensures .1)) (omega (arith, start₄ c .pre .0)) (omega (arith, count-most n))
 
-abbrev five : (c : tie.After-length5) → Upto (start₅ c .args .line .now) 36
+abbrev five : (c : tie.After-length5) → Upto (start₅ c .args .line .now) 56
 five c =
     let w = c .before .before .before in
     let u = four (w .before .before .before) in
@@ -102,7 +102,7 @@ add-result c = omega (arith, five c .few)
 returns : tie.Need-returns
 unfolding refusalWith
 returns c =
-    let n = c .before .before .before .before .before .before .before .before .before .before .before .before .before .before .before .before .before .before .before .before in
+    let n = c .before .before .before .before .before .before .before .before .before .before .before .before .before .before .before .before .before .before .before .before .before in
     upto-done (refusalWith (start₅ c .args .word .now) (start₅ c .args .r)) (five c) (rw (← n .number .ensures) (simp append-assoc))
 
 pub build-spec : {M : Type 1} → statement M
@@ -116,6 +116,7 @@ build-spec =
     part-put-count-start
     (λ c. search needs)
     (λ c κs. search needs)
+    (λ c. search needs)
     (λ c κs. search needs)
     (λ c κs. search needs)
     add-b
@@ -127,6 +128,7 @@ build-spec =
     add-c
     sub-put-count-2
     part-put-count-start-2
+    (λ c. search needs)
     (λ c. search needs)
     (λ c κs. search needs)
     (λ c κs. search needs)

@@ -1,63 +1,37 @@
 -- `writing::text::put_table` meets its contract. The loop's invariant: an output that the loop found filled with the first line is now filled with that line and the lines of the tasks passed. Assumes nothing.
 use Prim.Native.Nat.{ℕ, _+_, _-_, _≤_}
 use mathlib.Core.Path.{_≡_, ap}
-use mathlib.Core.List.{List, _∷_, _++_}
+use mathlib.Core.List.{List, _++_}
 use native.Mathlib.Omega.{arith}
 use lib.ListN.{length, length-append}
 use Rattle.basics.specs.Over.{joinTo}
-use Rattle.basics.specs.Text.{bytes}
-use Rattle.basics.proofs.FillLaws.{Filled, filled-none, rest-length}
-use Rattle.put.specs.Text.{countText}
-use Rattle.put.proofs.OutputLaws.{filled-done}
-use Rattle.put.proofs.PlaceLaws.{PutAt, filled-at, at-all}
+use Rattle.basics.proofs.FillLaws.{Filled, rest-length}
+use Rattle.put.proofs.OutputLaws.{filled-text, filled-done}
 use Rattle.table.proofs.Acceptance.{fine-accepted}
 use Rattle.writing.specs.Write.{textOf}
-use Rattle.writing.proofs.WriteLaws.{filled-first, next-room, filled-next, cpusText, linesOf, cpus-length}
+use Rattle.writing.proofs.WriteLaws.{filled-first, next-room, filled-next, cpusText, linesOf}
 use borrow.Author.Needs.{needs}
 use Rattle.writing.proofs.text.put_table.Statement.{statement}
 use Rattle.writing.proofs.text.put_table.Tie as tie
 
 abbrev Inv-loop : tie.InvT-loop
-Inv-loop out₀ t n a b at₀ i₀ out at i =
+Inv-loop out₀ t n at₀ i₀ out at i =
     (i ≤ n) × ((o : List ℕ) → Filled o out₀ (cpusText t) at₀ → Filled o out (cpusText t ++ joinTo i (linesOf t)) at)
 
 abbrev μ-loop : tie.MeasureT-loop
-μ-loop out₀ t n a b at₀ i₀ out at i = n - i
+μ-loop out₀ t n at₀ i₀ out at i = n - i
 
 few : (s : tie.Start Inv-loop μ-loop) → s .args .t2 .n ≤ 32
 few s = fine-accepted (s .args .t2) (s .pre .0) .tasks-most
 
-first-room : (s : tie.Start Inv-loop μ-loop) → 6 + length (countText (s .args .t2 .cpus)) ≤ length (s .args .out .now)
-unfolding textOf
-first-room s =
-    let t = s .args .t2 in
-    omega (arith, s .pre .1, cpus-length t, length-append (cpusText t) (joinTo (t .n) (linesOf t)))
-
--- the number of processors
-abbrev begin : tie.After-length Inv-loop μ-loop → tie.Start Inv-loop μ-loop
-begin c = c .before .before .before .before .before .before .before .before .before .before .before
-
-numbered : (c : tie.After-length Inv-loop μ-loop) → let m = c .before .before .before in let w = m .before .before .before .before .put in
-    PutAt (32 ∷ countText (begin c .args .t2 .cpus)) (w .result) (w .result + c .length .result) (w .last .0) (m .spaced-count .last .0)
-numbered c =
-    let m = c .before .before .before in
-    let w = m .before .before .before .before .put in
-    at-all (32 ∷ countText (begin c .args .t2 .cpus)) (w .last .0) (w .result) (omega (arith, first-room (begin c), w .kept .0)) (c .length .ensures) (m .spaced-count .ensures)
-
 abbrev start : tie.At-loop Inv-loop μ-loop → tie.Start Inv-loop μ-loop
-start l = begin (l .before .before .before .before .before .before)
+start l = l .before .before .before .before .before .before .before
 
 filled : (l : tie.At-loop Inv-loop μ-loop) → let a = start l .args in
     Filled (a .out .now) (l .loop .out) (cpusText (a .t2) ++ joinTo (l .loop .i) (linesOf (a .t2))) (l .loop .at)
 filled l =
-    let e = l .before .before .before in
-    let k = e .before .before .before in
-    let m = k .before .before .before in
-    let w = m .before .before .before .before in
-    let a = begin k .args in
-    let f₁ = filled-at (filled-none (a .out .now)) (bytes "cpus") (w .put .kept .0) (w .put .ensures) in
-    let f₂ = filled-at f₁ (32 ∷ countText (a .t2 .cpus)) (m .spaced-count .kept .0) (numbered k) in
-    l .loop .inv .1 (a .out .now) (filled-at f₂ (bytes "\n") (e .put2 .kept .0) (e .put2 .ensures))
+    let p = l .before .before .before in
+    l .loop .inv .1 (start l .args .out .now) (filled-text _ (p .put-counted .kept .0) (p .put-counted .ensures))
 
 -- there is room for the next task's lines
 room : (c : tie.After-x Inv-loop μ-loop) → let l = c .before .before in
@@ -68,18 +42,16 @@ room c =
     let s = start l in
     next-room (cpusText (s .args .t2)) (linesOf (s .args .t2)) (l .loop .i) (filled l) (s .args .t2 .n) (c .before .loop-test .taken) (s .pre .1)
 
-put-requires : tie.Need-put-requires Inv-loop μ-loop
-put-requires c κs = omega (arith, first-room (c .before .before .before))
-
-add-b : tie.Need-add-b Inv-loop μ-loop
-add-b c = omega (arith, first-room (begin c), numbered c .0)
-
-put-requires-2 : tie.Need-put-requires-2 Inv-loop μ-loop
-put-requires-2 c κs = let k = c .before .before in omega (arith, first-room (begin k), numbered k .0)
+put-counted-requires : tie.Need-put-counted-requires Inv-loop μ-loop
+unfolding textOf
+put-counted-requires c κs =
+    let s = c .before .before .before in
+    let t = s .args .t2 in
+    omega (arith, s .pre .1, length-append (cpusText t) (joinTo (t .n) (linesOf t)))
 
 loop-holds : tie.Need-loop-holds Inv-loop μ-loop
 loop-holds c =
-    let t = begin (c .before .before .before .before .before) .args .t2 in
+    let t = c .before .before .before .before .before .before .args .t2 in
     (omega arith, λ o q. filled-first (cpusText t) (linesOf t) q)
 
 mul-x : tie.Need-mul-x Inv-loop μ-loop
@@ -128,12 +100,7 @@ put-table-spec =
     Inv-loop
     μ-loop
     (λ c. search needs)
-    put-requires
-    (λ c κs. search needs)
-    (λ c κs. search needs)
-    add-b
-    (λ c. search needs)
-    put-requires-2
+    put-counted-requires
     loop-holds
     mul-x
     element-copy-out-x

@@ -20,21 +20,21 @@ room s = omega (arith, use-length (s .args .k .0) (s .args .p))
 
 -- the resource's number, and the place behind it
 abbrev begin : tie.After-length → tie.Start
-begin c = c .before .before .before .before .before .before .before .before .before .before .before
+begin c = c .before .before .before .before .before .before .before .before .before .before .before .before
 
 abbrev behind : tie.After-length → ℕ
-behind c = c .before .before .before .before .before .before .before .put .result + c .length .result
+behind c = c .before .before .before .before .before .before .before .before .put .result + c .length .result
 
-numbered : (c : tie.After-length) → let k = c .before .before .before in let w = k .before .before .before .before .put in
+numbered : (c : tie.After-length) → let k = c .before .before .before in let w = k .before .before .before .before .before .put in
     PutAt (32 ∷ countText (begin c .args .k .0)) (w .result) (behind c) (w .last .0) (k .spaced-count .last .0)
 numbered c =
     let k = c .before .before .before in
-    let w = k .before .before .before .before .put in
+    let w = k .before .before .before .before .before .put in
     at-all (32 ∷ countText (begin c .args .k .0)) (w .last .0) (w .result) (omega (arith, room (begin c), w .kept .0)) (c .length .ensures) (k .spaced-count .ensures)
 
 -- the requests
 abbrev first : tie.After-length2 → tie.After-length
-first c = c .before .before .before .before .before
+first c = c .before .before .before .before .before .before
 
 requested : (c : tie.After-length2) → let k = first c in
     PutAt (32 ∷ countText (begin k .args .p .requests)) (behind k) (behind k + c .length2 .result) (k .before .before .before .spaced-count .last .0) (c .before .before .before .spaced-count2 .last .0)
@@ -42,7 +42,7 @@ requested c =
     let k = first c in
     let n = k .before .before .before in
     at-all (32 ∷ countText (begin k .args .p .requests)) (n .spaced-count .last .0) (behind k)
-    (omega (arith, room (begin k), numbered k .0, n .spaced-count .kept .0, n .before .before .before .before .put .kept .0))
+    (omega (arith, room (begin k), numbered k .0, n .spaced-count .kept .0, n .before .before .before .before .before .put .kept .0))
     (c .length2 .ensures) (c .before .before .before .spaced-count2 .ensures)
 
 -- there is room for the rest of the line
@@ -76,7 +76,7 @@ returns c =
     let d = e .before .before .before .before in
     let n = d .before .before in
     let k = first n in
-    let w = k .before .before .before .before .before .before .before in
+    let w = k .before .before .before .before .before .before .before .before in
     let a = begin k .args in
     let f₁ = filled-at (filled-none (a .out .now)) (bytes "use") (w .put .kept .0) (w .put .ensures) in
     let f₂ = filled-at f₁ (32 ∷ countText (a .k .0)) (k .before .before .before .spaced-count .kept .0) (numbered k) in
@@ -91,9 +91,11 @@ put-use-spec =
     (tie.spec
     (λ c. search needs)
     put-requires
+    (λ c. search needs)
     (λ c κs. search needs)
     (λ c κs. search needs)
     add-b
+    (λ c. search needs)
     (λ c κs. search needs)
     (λ c κs. search needs)
     add-c

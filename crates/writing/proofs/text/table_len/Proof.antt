@@ -5,7 +5,7 @@ use mathlib.Core.List.{_++_}
 use native.Mathlib.Omega.{arith}
 use lib.ListN.{length}
 use Rattle.basics.specs.Over.{joinTo}
-use Rattle.put.proofs.TextLaws.{count-length, width-most}
+use Rattle.put.proofs.TextLaws.{count-small}
 use Rattle.table.proofs.Acceptance.{fine-accepted}
 use Rattle.writing.specs.Write.{textOf}
 use Rattle.writing.proofs.WriteLaws.{none-yet, more-length, cpusText, linesOf, cpus-length}
@@ -14,7 +14,7 @@ use Rattle.writing.proofs.text.table_len.Statement.{statement}
 use Rattle.writing.proofs.text.table_len.Tie as tie
 
 abbrev Inv-loop : tie.InvT-loop
-Inv-loop t n sum₀ i₀ sum i = (i ≤ n) × (sum ≤ 16 + i * 841) × (sum ≡ length (cpusText t ++ joinTo i (linesOf t)))
+Inv-loop t n sum₀ i₀ sum i = (i ≤ n) × (sum ≤ 16 + i * 858) × (sum ≡ length (cpusText t ++ joinTo i (linesOf t)))
 
 abbrev μ-loop : tie.MeasureT-loop
 μ-loop t n sum₀ i₀ sum i = n - i
@@ -23,7 +23,7 @@ few : (s : tie.Start Inv-loop μ-loop) → s .args .t1 .n ≤ 32
 few s = fine-accepted (s .args .t1) (s .pre) .tasks-most
 
 narrow : (c : tie.After-count-len Inv-loop μ-loop) → c .count-len .result ≤ 10
-narrow c = let m = c .before .args .t1 .cpus in omega (arith, count-length m, width-most m)
+narrow c = omega (arith, count-small (c .before .args .t1 .cpus) (omega arith))
 
 add-sum : tie.Need-add-sum Inv-loop μ-loop
 add-sum c = omega (arith, narrow c)
@@ -61,6 +61,7 @@ table-len-spec =
     (tie.spec
     Inv-loop
     μ-loop
+    (λ c. search needs)
     (λ c κs. search needs)
     add-sum
     loop-holds
