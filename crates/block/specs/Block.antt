@@ -62,5 +62,6 @@ headIn s = record { cpus = byteAt s 3; n = byteAt s 4; number = byteAt s 5 }
 unfoldable pub pairIn : List ℕ → ℕ → Pair
 pairIn s k = aPair (numberAt s (20 + 10 * k) 2) (numberAt s (22 + 10 * k) 4) (numberAt s (26 + 10 * k) 4)
 
+-- a card has no alpha (document 02, 8/12: "The archive drops it"), so that the task has none
 unfoldable pub taskIn : List ℕ → Task
 taskIn s = aTask (numberAt s 8 4) (numberAt s 12 4) (numberAt s 16 4) (rowTo maxResources (pairIn s))

@@ -89,7 +89,7 @@ fn pair(s: &[u8], k: usize) -> Pair
     }
 }
 
-// The times, and the sixteen entries.
+// The times, and the sixteen entries. A block has no alpha.
 pub(crate) fn task(s: &[u8]) -> Task
     ensures { λ r. ⌜ r ≡ taskIn (now (s .entry)) ⌝ }
 {
@@ -107,6 +107,7 @@ pub(crate) fn task(s: &[u8]) -> Task
         period: four(s, 8),
         run: four(s, 12),
         deadline: four(s, 16),
+        alpha: 0,
         pairs,
     }
 }

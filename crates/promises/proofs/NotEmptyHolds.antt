@@ -9,7 +9,7 @@ use Rattle.table.specs.declared.Table.{Table}
 use Rattle.table.specs.declared.Checked.the-variants.{Fine}
 use Rattle.table.specs.Empty.{emptyTask, emptyTable}
 use Rattle.table.specs.Faults.{firstFault}
-use Rattle.table.specs.Rules.{timesInRange, timesInOrder, timesFault, isUnused, usedInRange, pairInRange, totalsFit, pairFault, pairsFault, taskFault, tasksFault, tableFault}
+use Rattle.table.specs.Rules.{timesInRange, timesInOrder, timesFault, isUnused, usedInRange, pairInRange, totalsFit, pairFault, pairsFault, alphaFault, taskFault, lastAlpha, tasksFault, tableFault}
 use Rattle.field.specs.Number.{rounded, fraction, timeField, countField}
 use Rattle.put.specs.Text.{width, countText}
 use Rattle.line.specs.Fields.{fieldCount}
@@ -65,11 +65,11 @@ unfolding sumTo emptyTask emptyTable firstFault timesInRange timesInOrder timesF
 two-tasks = lit< tt
 
 pub falls : Moves LongerButFree (readTable holding) (readTable holdingLonger) 1 5_000 3_000
-unfolding allTo rules sumTo maxTo firstTo emptyTask emptyTable firstFault timesInRange timesInOrder timesFault isUnused usedInRange pairInRange totalsFit pairFault pairsFault taskFault tasksFault tableFault rounded fraction timeField countField width countText fieldCount cpusLine taskLine useLine lineSays pastAfter newTask tableAfter readEnd readLines readListing uncapped workload jobs ceilDiv ceiling sharedCT otherCT allCT highCT DB S O F L demandWith countedFrom
+unfolding allTo rules sumTo maxTo firstTo emptyTask emptyTable firstFault timesInRange timesInOrder timesFault isUnused usedInRange pairInRange totalsFit pairFault pairsFault alphaFault taskFault lastAlpha tasksFault tableFault rounded fraction timeField countField width countText fieldCount cpusLine taskLine useLine lineSays pastAfter newTask tableAfter readEnd readLines readListing uncapped workload jobs ceilDiv ceiling sharedCT otherCT allCT highCT DB S O F L demandWith countedFrom
 falls = moves equal at-most any 3 3 refl refl refl tt tt refl refl
 
 pub not-empty : NotEmpty
-unfolding on allTo rules sumTo maxTo firstTo firstFault timesInRange timesInOrder timesFault isUnused usedInRange pairInRange totalsFit pairFault pairsFault taskFault tasksFault tableFault uncapped workload jobs ceilDiv ceiling sharedCT otherCT allCT highCT DB S O F L demandWith countedFrom
+unfolding on allTo rules sumTo maxTo firstTo firstFault timesInRange timesInOrder timesFault isUnused usedInRange pairInRange totalsFit pairFault pairsFault alphaFault taskFault lastAlpha tasksFault tableFault uncapped workload jobs ceilDiv ceiling sharedCT otherCT allCT highCT DB S O F L demandWith countedFrom
 not-empty =
     record {
       harder =

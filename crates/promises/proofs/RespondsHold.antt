@@ -16,7 +16,7 @@ use Rattle.table.specs.declared.Checked.the-variants.{Fine}
 use Rattle.table.specs.Empty.{emptyTask, emptyTable}
 use Rattle.table.specs.Answers.{accepted}
 use Rattle.table.specs.Faults.{firstFault}
-use Rattle.table.specs.Rules.{timesInRange, timesInOrder, timesFault, isUnused, usedInRange, pairInRange, totalsFit, pairFault, pairsFault, taskFault, tasksFault, tableFault}
+use Rattle.table.specs.Rules.{timesInRange, timesInOrder, timesFault, isUnused, usedInRange, pairInRange, totalsFit, pairFault, pairsFault, alphaFault, taskFault, lastAlpha, tasksFault, tableFault}
 use Rattle.table.proofs.Acceptance.{fine-accepted}
 use Rattle.theory.specs.declared.Verdict.the-variants.{Meets}
 use Rattle.field.specs.Number.{rounded, fraction, timeField, countField}
@@ -88,11 +88,11 @@ others-meet allowance s t row X micros p c m k pos J o S E r i h x =
     (record { low = λ i h x. least i h x .low; high = λ i h x. least i h x .high; covers = λ i h x. least i h x .meets }) k pos J o S E r i h x
 
 shown-listing : readListing (bytes shownListing) ≡ accepted shownTable
-unfolding shownTable sumTo emptyTask emptyTable firstFault timesInRange timesInOrder timesFault isUnused usedInRange pairInRange totalsFit pairFault pairsFault taskFault tasksFault tableFault rounded fraction timeField countField fieldCount cpusLine taskLine useLine lineSays pastAfter newTask tableAfter readEnd readLines readListing
+unfolding shownTable sumTo emptyTask emptyTable firstFault timesInRange timesInOrder timesFault isUnused usedInRange pairInRange totalsFit pairFault pairsFault alphaFault taskFault lastAlpha tasksFault tableFault rounded fraction timeField countField fieldCount cpusLine taskLine useLine lineSays pastAfter newTask tableAfter readEnd readLines readListing
 shown-listing = refl
 
 miss-listing : readListing (bytes missListing) ≡ accepted missTable
-unfolding missTable sumTo emptyTask emptyTable firstFault timesInRange timesInOrder timesFault isUnused usedInRange pairInRange totalsFit pairFault pairsFault taskFault tasksFault tableFault rounded fraction timeField countField fieldCount cpusLine taskLine useLine lineSays pastAfter newTask tableAfter readEnd readLines readListing
+unfolding missTable sumTo emptyTask emptyTable firstFault timesInRange timesInOrder timesFault isUnused usedInRange pairInRange totalsFit pairFault pairsFault alphaFault taskFault lastAlpha tasksFault tableFault rounded fraction timeField countField fieldCount cpusLine taskLine useLine lineSays pastAfter newTask tableAfter readEnd readLines readListing
 miss-listing = refl
 
 -- what `report` says of a task that has a bound

@@ -10,7 +10,7 @@ use Rattle.basics.specs.Over.{sumTo, maxTo, allTo, firstTo}
 use Rattle.table.specs.declared.Table.{Table}
 use Rattle.table.specs.declared.Checked.the-variants.{Fine}
 use Rattle.table.specs.Faults.{firstFault}
-use Rattle.table.specs.Rules.{timesInRange, timesInOrder, timesFault, isUnused, usedInRange, pairInRange, totalsFit, pairFault, pairsFault, taskFault, tasksFault, tableFault}
+use Rattle.table.specs.Rules.{timesInRange, timesInOrder, timesFault, isUnused, usedInRange, pairInRange, totalsFit, pairFault, pairsFault, alphaFault, taskFault, lastAlpha, tasksFault, tableFault}
 use Rattle.table.proofs.Acceptance.{fine-accepted}
 use Rattle.table.specs.Answers.{accepted}
 use Rattle.listing.specs.Read.{readListing}
@@ -99,7 +99,7 @@ printed s s' a b e f r =
     }
 
 overtakes : Overtakes (on 2 tasksA) (on 1 tasksA) 2 benchAllowance 22_000 4
-unfolding benchAllowance on allTo rules sumTo maxTo firstTo firstFault timesInRange timesInOrder timesFault isUnused usedInRange pairInRange totalsFit pairFault pairsFault taskFault tasksFault tableFault uncapped workload jobs ceilDiv ceiling sharedCT otherCT allCT highCT DB S O F L demandWith countedFrom countedIn
+unfolding benchAllowance on allTo rules sumTo maxTo firstTo firstFault timesInRange timesInOrder timesFault isUnused usedInRange pairInRange totalsFit pairFault pairsFault alphaFault taskFault lastAlpha tasksFault tableFault uncapped workload jobs ceilDiv ceiling sharedCT otherCT allCT highCT DB S O F L demandWith countedFrom countedIn
 overtakes =
     record {
       harder = related-by at-most equal any refl refl refl;

@@ -7,7 +7,7 @@ use lib.Dec.{lit<}
 use Rattle.basics.specs.Over.{sumTo, maxTo, firstTo}
 use Rattle.table.specs.declared.Table.{Table}
 use Rattle.table.specs.declared.Checked.the-variants.{Fine}
-use Rattle.table.specs.Rules.{timesInRange, timesInOrder, timesFault, isUnused, usedInRange, pairInRange, totalsFit, pairFault, pairsFault, taskFault, tasksFault, tableFault}
+use Rattle.table.specs.Rules.{timesInRange, timesInOrder, timesFault, isUnused, usedInRange, pairInRange, totalsFit, pairFault, pairsFault, alphaFault, taskFault, lastAlpha, tasksFault, tableFault}
 use Rattle.table.proofs.Acceptance.{fine-accepted}
 use Rattle.table.specs.Empty.{emptyTask, emptyTable}
 use Rattle.table.specs.Faults.{firstFault}
@@ -54,7 +54,7 @@ window-holds =
     }
 
 pub story-holds : Story
-unfolding sumTo maxTo firstTo emptyTask emptyTable firstFault timesInRange timesInOrder timesFault isUnused usedInRange pairInRange totalsFit pairFault pairsFault taskFault tasksFault tableFault rounded fraction timeField countField width countText fieldCount cpusLine taskLine useLine lineSays pastAfter newTask tableAfter readEnd readLines readListing uncapped workload jobs ceilDiv ceiling sharedCT otherCT allCT highCT DB S O F L demandWith countedFrom countedIn rowWith rowText
+unfolding sumTo maxTo firstTo emptyTask emptyTable firstFault timesInRange timesInOrder timesFault isUnused usedInRange pairInRange totalsFit pairFault pairsFault alphaFault taskFault lastAlpha tasksFault tableFault rounded fraction timeField countField width countText fieldCount cpusLine taskLine useLine lineSays pastAfter newTask tableAfter readEnd readLines readListing uncapped workload jobs ceilDiv ceiling sharedCT otherCT allCT highCT DB S O F L demandWith countedFrom countedIn rowWith rowText
 story-holds =
     record {
       met = by-rounds uncapped uncapped-rises (readTable before) 2 refl (lit< tt) 13 {v = Meets 4_000} refl;

@@ -14,6 +14,7 @@ use Rattle.table.specs.Rules.{tableFault}
 use Rattle.table.proofs.Deciding.{rule-is, from-two, by-first}
 use Rattle.table.proofs.Called.{refused-as-called as table-refused, number-most}
 use Rattle.card.specs.Archive.{tableIn}
+use Rattle.card.proofs.ReadLaws.{card-none}
 use Rattle.salvaging.specs.Fates.{codesOf}
 use Rattle.salvaging.specs.Salvage.{leftIn, isComplete, inOrder, isCard, hasRoom, roomFault, leftFault, salvageFault, listed}
 
@@ -44,7 +45,7 @@ module _ (s list : List ℕ) (room : ℕ) where
   late-number k p =
       from-two (unless (isComplete s (codesOf s)) Mismatch 0) (tableFault (tableIn (inOrder s (codesOf s) (leftIn (codesOf s))))) k p
       (λ x. inl (sym (rule-is (isComplete s (codesOf s)) Mismatch 0 k p x .1)))
-      (λ _ x. inr (number-most (table-refused .refused (tableIn (inOrder s (codesOf s) (leftIn (codesOf s)))) k p .0 x)))
+      (λ _ x. inr (number-most (card-none (inOrder s (codesOf s) (leftIn (codesOf s)))) (table-refused .refused (tableIn (inOrder s (codesOf s) (leftIn (codesOf s)))) k p .0 x)))
 
   -- what refuses the list
   kept-by : (k p : ℕ) → Refuses early k p → listed s list room ≡ list

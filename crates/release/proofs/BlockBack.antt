@@ -13,7 +13,7 @@ use Rattle.basics.proofs.RowLaws.{row-eq}
 use Rattle.table.specs.declared.Pair.{Pair}
 use Rattle.table.specs.declared.Task.{Task}
 use Rattle.table.specs.Limits.{maxResources}
-use Rattle.table.specs.At.{pairOf}
+use Rattle.table.specs.At.{withAlpha, pairOf}
 use Rattle.table.specs.Cleared.{clearedTask}
 use Rattle.checksum.specs.Sum.{checkOf}
 use Rattle.block.specs.declared.Head.{Head}
@@ -131,7 +131,7 @@ module _ (h : Head) (x : Task) where
         λ o m w i q. number-eq (blockOf h x) (entryBytes p) i o m (λ j d. entry-byte k (o + j) (i + j) l (omega arith) (omega arith)) in
         rw (at 0 2 (omega arith) (20 + 10 * k) (omega arith), at 2 4 (omega arith) (22 + 10 * k) (omega arith), at 6 4 (omega arith) (26 + 10 * k) (omega arith), e .0, e .1, e .2)
 
-    pub task-back : taskIn (blockOf h x) ≡ clearedTask x
+    pub task-back : taskIn (blockOf h x) ≡ clearedTask (withAlpha 0 x)
     unfolding taskIn clearedTask
     task-back =
         rw (times-back .0, times-back .1, times-back .2, row-eq maxResources (pairIn (blockOf h x)) (pairOf x) pair-back)

@@ -1,6 +1,6 @@
 -- An archive is refused exactly as it calls for (specs/Refusals.antt).
 -- Assumes nothing.
-use Prim.Native.Nat.{ℕ, _+_, _<_}
+use Prim.Native.Nat.{ℕ, _+_, _≤_, _<_}
 use mathlib.Core.Path.{_≡_, refl, sym, _∙_}
 use mathlib.Core.Bool.{Bool}
 use mathlib.Core.Logic.{_⊎_, inl, inr}
@@ -22,7 +22,7 @@ use Rattle.table.proofs.RuleLaws.{unless-fine}
 use Rattle.table.proofs.Acceptance.{fine-accepted, accepted-fine}
 use Rattle.block.specs.Block.{goodBlock, headIn}
 use Rattle.card.specs.Archive.{blockAt, blocksIn, isLength, agrees, blockFault, blockFaultAt, blocksFault, tableIn, archiveFault, readArchive}
-use Rattle.card.proofs.ReadLaws.{answer-is}
+use Rattle.card.proofs.ReadLaws.{answer-is, card-none}
 use Rattle.release.specs.Refusals.{Whole, GoodBlock, InPlace, FirstGood, CallsFor, bad-length, bad-block, mismatch, table, RefusedAsCalled}
 use Rattle.release.proofs.GoodLaws.{good-is, is-good, agrees-is, is-agreed}
 use Rattle.release.proofs.Parts.{whole-blocks, whole-is, is-whole, block-good, block-fine, fine-kept, kept-fine}
@@ -103,17 +103,14 @@ calls-refused a k p (table n w all x) =
     let e = sym (whole-blocks w) in
     table-given a (rw e at w) k p (rw e at all) (table-refused .refused (tableIn a) k p .1 x)
 
--- ---- neither 8 nor 9
+-- ---- which numbers there are: 4, 5, 7, and 12 to 14
 
-other-calls : (a : List ℕ) (k p : ℕ) → CallsFor a k p → (k ≡ 8 → ⊥) × (k ≡ 9 → ⊥)
+called-number : (a : List ℕ) (k p : ℕ) → CallsFor a k p → (k ≤ 7) ⊎ ((12 ≤ k) × (k ≤ 14))
 unfolding tableIn
-other-calls a _ _ (bad-length n) = (λ e. omega arith, λ e. omega arith)
-other-calls a _ _ (bad-block n i w h before x) = (λ e. omega arith, λ e. omega arith)
-other-calls a _ _ (mismatch n i w h before g x) = (λ e. omega arith, λ e. omega arith)
-other-calls a k p (table n w all x) =
-    let e = whole-blocks w in
-    let few = number-few {t = tableIn a} (rw e (w .least), rw e (w .most)) x in
-    (λ e. omega arith, λ e. omega arith)
+called-number a _ _ (bad-length n) = inr (omega arith, omega arith)
+called-number a _ _ (bad-block n i w h before x) = inr (omega arith, omega arith)
+called-number a _ _ (mismatch n i w h before g x) = inr (omega arith, omega arith)
+called-number a k p (table n w all x) = let e = whole-blocks w in inl (number-few {t = tableIn a} (card-none a) (rw e (w .least), rw e (w .most)) x)
 
 -- a refused reading gives no table
 pub archive-empty : (a : List ℕ) (r : Refusal) → readArchive a .answer ≡ Refused r → readArchive a .table ≡ emptyTable
@@ -134,6 +131,5 @@ refused-as-called =
             let e = sym (whole-blocks (x .1)) in
             answer-is a ∙ kept-fine a (record { whole = rw e at (x .1); good = rw e at (x .2); table = accepted-fine (tableIn a) (x .3) }),
       );
-      not-eight = λ a p x. other-calls a 8 p (refused-calls a 8 p (rw (answer-is a) at x)) .0 refl;
-      not-nine = λ a p x. other-calls a 9 p (refused-calls a 9 p (rw (answer-is a) at x)) .1 refl;
+      numbers = λ a k p x. called-number a k p (refused-calls a k p (rw (answer-is a) at x));
     }

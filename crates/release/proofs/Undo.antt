@@ -19,6 +19,8 @@ use Rattle.table.specs.Empty.{emptyTask}
 use Rattle.table.specs.At.{noTask, taskAt, pairOf, SameTask}
 use Rattle.table.specs.Accepted.{Accepted}
 use Rattle.table.specs.Rules.{tableFault}
+use Rattle.table.specs.Without.{withoutAlpha}
+use Rattle.table.proofs.WithoutLaws.{without-at, without-fine, none-cleared}
 use Rattle.table.specs.Cleared.{clearedTask, cleared}
 use Rattle.table.proofs.RuleLaws.{pair-bounds}
 use Rattle.table.proofs.Acceptance.{fine-accepted}
@@ -28,8 +30,9 @@ use Rattle.block.specs.Block.{timesBytes, entryBytes, entriesBytes, bodyOf, blo
 use Rattle.block.proofs.BlockLaws.{block-length}
 use Rattle.card.specs.Archive.{headFor, blockFor, archiveOf, blockAt, blocksIn, tableIn, readArchive}
 use Rattle.card.proofs.ArchiveLaws.{archive-length}
-use Rattle.card.proofs.ReadLaws.{accepted-is, accepted-passes}
-use Rattle.release.specs.Undo.{Bytes, ReadsBack, WritesAgain, SameArchive, OneArchive, PassesCheck}
+use Rattle.table.specs.Answers.{accepted}
+use Rattle.card.proofs.ReadLaws.{accepted-is, card-none, accepted-passes}
+use Rattle.release.specs.Undo.{Bytes, ReadsBack, DropsAlpha, AlphaAlone, ReadsNone, WritesAgain, SameArchive, OneArchive, PassesCheck}
 use Rattle.release.specs.Refusals.{Whole, InPlace}
 use Rattle.release.proofs.BlockIs.{block-is}
 use Rattle.release.proofs.BlockBack.{Fits, good-back, head-back, task-back}
@@ -66,14 +69,14 @@ module _ (t : Table) (e : tableFault t ≡ Fine) where
   head-at : (i : ℕ) → i < t .n → headIn (blockAt (archiveOf t) i) ≡ headFor t i
   head-at i h = ap headIn (block-at i h) ∙ head-back (headFor t i) (taskAt t i) (fits i h)
 
-  table-is : tableIn (archiveOf t) ≡ cleared t
-  unfolding tableIn cleared
+  table-is : tableIn (archiveOf t) ≡ cleared (withoutAlpha t)
+  unfolding tableIn cleared withoutAlpha
   table-is =
       rw (
         whole-blocks whole,
         head-at 0 (good .tasks-least),
-        row-eq maxTasks _ (λ i. pick (ltb i (t .n)) (clearedTask (taskAt t i)) emptyTask)
-            (λ i h. pick-when emptyTask (ltb i (t .n)) (λ l. ap taskIn (block-at i (ltb-true _ _ l)) ∙ task-back (headFor t i) (taskAt t i) (fits i (ltb-true _ _ l)))),
+        row-eq maxTasks _ (λ i. pick (ltb i (t .n)) (clearedTask (taskAt (withoutAlpha t) i)) emptyTask)
+            (λ i h. pick-when emptyTask (ltb i (t .n)) (λ l. ap taskIn (block-at i (ltb-true _ _ l)) ∙ task-back (headFor t i) (taskAt t i) (fits i (ltb-true _ _ l)) ∙ ap clearedTask (sym (without-at t i)))),
       )
 
   in-place : (i : ℕ) → i < t .n → InPlace (archiveOf t) (t .n) i
@@ -93,12 +96,15 @@ module _ (t : Table) (e : tableFault t ≡ Fine) where
       record {
         whole = rw (whole-blocks whole) whole;
         good = rw (whole-blocks whole) (λ i h. (rw (block-at i h) (good-back (headFor t i) (taskAt t i)), in-place i h));
-        table = rw table-is (sym (same-fault t (cleared t) (cleared-same t e)) ∙ e);
+        table = let f = without-fine t e in rw table-is (sym (same-fault (withoutAlpha t) (cleared (withoutAlpha t)) (cleared-same (withoutAlpha t) f)) ∙ f);
       }
 
-pub reads-back : ReadsBack
+pub drops-alpha : DropsAlpha
 unfolding readArchive
-reads-back t e = rw (kept-fine (archiveOf t) (kept t e), table-is t e)
+drops-alpha t e = rw (kept-fine (archiveOf t) (kept t e), table-is t e)
+
+pub reads-back : ReadsBack
+reads-back t e z = drops-alpha t e ∙ ap accepted (none-cleared t z)
 
 -- ---- an accepted archive, written again
 
@@ -125,6 +131,9 @@ writes-again a t bytes e =
     let p = accepted-is a t e in
     rw (← p .1) (again a (fine-kept a (p .0)) bytes)
 
+pub reads-none : ReadsNone
+reads-none a t e = let p = accepted-is a t e in rw (← p .1) (card-none a)
+
 pub passes-check : PassesCheck
 passes-check = accepted-passes
 
@@ -140,6 +149,14 @@ unfolding archiveOf
 same-archive s t q =
     join-eq (s .n) (blockFor s) (blockFor t) (λ i h. rw (q .cpus, q .n) (block-same (headFor t i) (taskAt s i) (taskAt t i) (q .tasks i h)))
     ∙ ap (λ (n : ℕ). joinTo n (blockFor t)) (q .n)
+
+-- a block has no alpha
+archive-without : (t : Table) → archiveOf (withoutAlpha t) ≡ archiveOf t
+unfolding archiveOf blockOf bodyOf timesBytes entriesBytes withoutAlpha
+archive-without t = join-eq (t .n) _ (blockFor t) (λ i h. ap (blockOf (headFor t i)) (without-at t i))
+
+pub alpha-alone : AlphaAlone
+alpha-alone s t q = sym (archive-without s) ∙ same-archive (withoutAlpha s) (withoutAlpha t) q ∙ archive-without t
 
 pub one-archive : OneArchive
 one-archive a b s t x y p q same = sym (writes-again a s x p) ∙ same-archive s t same ∙ writes-again b t y q

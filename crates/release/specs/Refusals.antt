@@ -57,6 +57,5 @@ pub record RefusedAsCalled : Type 0 where
   pub refused : (a : List ℕ) (number place : ℕ) → Refuses (readArchive a .answer) number place exactly-if CallsFor a number place
   -- and accepted exactly if nothing is called for
   pub accepted : (a : List ℕ) → (readArchive a .answer ≡ Fine) exactly-if ((n : ℕ) × Whole a n × FirstGood a n n × Accepted (tableIn a))
-  -- no archive says 8 or 9: there are 1 to 32 blocks, and n is how many
-  pub not-eight : (a : List ℕ) (place : ℕ) → Refuses (readArchive a .answer) 8 place → ⊥
-  pub not-nine : (a : List ℕ) (place : ℕ) → Refuses (readArchive a .answer) 9 place → ⊥
+  -- neither 8 nor 9 is among the table's own here: there are 1 to 32 blocks, and n is how many; nor 17 nor 18: a card has no alpha
+  pub numbers : (a : List ℕ) (number place : ℕ) → Refuses (readArchive a .answer) number place → (number ≤ 7) ⊎ ((12 ≤ number) × (number ≤ 14))

@@ -5,11 +5,12 @@ use mathlib.Core.List.{List}
 use lib.ListN.{length, set}
 use Rattle.table.specs.declared.Table.{Table}
 use Rattle.table.specs.declared.Checked.the-variants.{Fine}
-use Rattle.table.specs.At.{Same}
+use Rattle.table.specs.At.{NoAlpha, Same}
 use Rattle.table.specs.Faults.{Refuses}
 use Rattle.table.specs.Rules.{tableFault}
 use Rattle.table.specs.Answers.{accepted}
 use Rattle.table.specs.Cleared.{cleared}
+use Rattle.table.specs.Without.{withoutAlpha, SameButAlpha}
 use Rattle.block.specs.Numbers.{byteAt}
 use Rattle.block.specs.Block.{blockSize}
 use Rattle.card.specs.Archive.{archiveOf, readArchive}
@@ -18,9 +19,17 @@ use Rattle.card.specs.Archive.{archiveOf, readArchive}
 abbrev pub Bytes : List ℕ → Type 0
 Bytes s = (i : ℕ) → byteAt s i < 256
 
--- the archive of an accepted table is read as that table, with zeros past the nth task
+-- the archive of an accepted table is read as that table, with zeros past the nth task: "its round trip is for tables without alpha" (request 8/12)
 abbrev pub ReadsBack : Type 0
-ReadsBack = (t : Table) → tableFault t ≡ Fine → readArchive (archiveOf t) ≡ accepted (cleared t)
+ReadsBack = (t : Table) → tableFault t ≡ Fine → NoAlpha t → readArchive (archiveOf t) ≡ accepted (cleared t)
+
+-- and of any accepted table as the same one without its alphas: "The archive drops it"
+abbrev pub DropsAlpha : Type 0
+DropsAlpha = (t : Table) → tableFault t ≡ Fine → readArchive (archiveOf t) ≡ accepted (cleared (withoutAlpha t))
+
+-- two tables that differ in alpha alone have one archive
+abbrev pub AlphaAlone : Type 0
+AlphaAlone = (s t : Table) → SameButAlpha s t → archiveOf s ≡ archiveOf t
 
 -- the table of an accepted archive, written again, is that archive, byte for byte
 abbrev pub WritesAgain : Type 0
@@ -34,7 +43,10 @@ SameArchive = (s t : Table) → Same s t → archiveOf s ≡ archiveOf t
 abbrev pub OneArchive : Type 0
 OneArchive = (a b : List ℕ) (s t : Table) → Bytes a → Bytes b → readArchive a ≡ accepted s → readArchive b ≡ accepted t → Same s t → a ≡ b
 
--- what a reading accepts, the check of a table accepts
+-- what a reading accepts has no alpha, and the check of a table accepts it
+abbrev pub ReadsNone : Type 0
+ReadsNone = (a : List ℕ) (t : Table) → readArchive a ≡ accepted t → NoAlpha t
+
 abbrev pub PassesCheck : Type 0
 PassesCheck = (a : List ℕ) (t : Table) → readArchive a ≡ accepted t → tableFault t ≡ Fine
 

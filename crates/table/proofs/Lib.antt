@@ -8,6 +8,7 @@
 --   Acceptance     a table is accepted exactly if nothing is said against it
 --   Called         a table is refused exactly as it calls for
 --   Sameness       tables that are the same are checked alike
+--   WithoutLaws    a table without its alphas
 --   CasesHold      the cases, computed
 --   Determined     two answers are equal
 pub mod Chain
@@ -19,5 +20,6 @@ pub mod RuleLaws
 pub mod Acceptance
 pub mod Called
 pub mod Sameness
+pub mod WithoutLaws
 pub mod CasesHold
 pub mod Determined
