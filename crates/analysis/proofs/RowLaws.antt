@@ -27,12 +27,12 @@ use Rattle.table.specs.declared.Fault.the-variants.{UnknownTask, TooShort, NoRo
 use Rattle.table.specs.declared.Checked.{Checked}
 use Rattle.table.specs.declared.Checked.the-variants.{Fine, Refused}
 use Rattle.table.specs.Limits.{maxTasks}
-use Rattle.table.specs.Rules.{tableFault}
+use Rattle.table.specs.Rules.{tableFault, askedFault}
 use Rattle.table.proofs.FirstLaws.{then-fine}
 use Rattle.table.proofs.RuleLaws.{unless-fine}
 use Rattle.table.proofs.Acceptance.{fine-accepted}
 use Rattle.analysis.specs.declared.Record.{Record}
-use Rattle.analysis.specs.Answers.{askedFault, allowanceFault, boundFault, analysisFault, orNone, recordCount, recordOf, analysed}
+use Rattle.analysis.specs.Answers.{allowanceFault, boundFault, analysisFault, orNone, recordCount, recordOf, analysed}
 
 -- ---- one task
 

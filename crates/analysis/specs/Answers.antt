@@ -4,15 +4,14 @@ use mathlib.Core.Path.{_≡_}
 use mathlib.Core.List.{List, _++_}
 use lib.ListN.{length, drop}
 use lib.Dec.{leb}
-use Rattle.basics.specs.Choice.{within}
 use Rattle.basics.specs.Over.{rowTo}
 use Rattle.table.specs.declared.Level.{Level}
 use Rattle.table.specs.declared.Table.{Table}
-use Rattle.table.specs.declared.Fault.the-variants.{UnknownTask, TooShort, NoRounds}
+use Rattle.table.specs.declared.Fault.the-variants.{TooShort, NoRounds}
 use Rattle.table.specs.declared.Checked.{Checked}
 use Rattle.table.specs.declared.Checked.the-variants.{Fine, Refused}
 use Rattle.table.specs.Faults.{_then_, unless}
-use Rattle.table.specs.Rules.{tableFault}
+use Rattle.table.specs.Rules.{tableFault, askedFault}
 use Rattle.theory.specs.declared.Verdict.the-variants.{Meets}
 use Rattle.theory.specs.View.{level}
 use Rattle.theory.specs.Tables.{countedIn}
@@ -21,10 +20,6 @@ use Rattle.analysis.specs.declared.Answer.the-variants.{Known, Unknown}
 use Rattle.analysis.specs.declared.Record.{Record}
 
 -- ---- refusals that come after the table's own
-
--- 10: "the task asked about is 0 or above n"
-abbrev pub askedFault : ℕ → Level → Checked
-askedFault n i = unless (within 1 n (i .0)) UnknownTask 0
 
 -- 16: "allowance 0, place 0"
 abbrev pub allowanceFault : ℕ → Checked

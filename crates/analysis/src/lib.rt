@@ -7,7 +7,7 @@ ghost use Rattle.table.specs.Limits.{maxTasks};
 ghost use Rattle.table.specs.Rules.{tableFault};
 ghost use Rattle.theory.specs.View.{level};
 ghost use Rattle.theory.specs.Tables.{countedIn};
-ghost use Rattle.analysis.specs.Answers.{askedFault, allowanceFault, rowFault, boundFault, boundOf, analysisFault, recordCount, recordOf, analysed, FillsRow};
+ghost use Rattle.analysis.specs.Answers.{allowanceFault, rowFault, boundFault, boundOf, analysisFault, recordCount, recordOf, analysed, FillsRow};
 use rounds::Outcome;
 use table::Checked;
 use table::Fault;
@@ -74,20 +74,6 @@ fn refuse(fault: Fault) -> Checked
     Checked::Refused(Refusal { fault, place: 0 })
 }
 
-// 10, of a table of n tasks.
-fn check_asked(n: usize, task: Level) -> Checked
-    ensures { λ r. ⌜ r ≡ askedFault n task ⌝ }
-{
-    let number = task.0 as usize;
-    if number < 1 {
-        return refuse(Fault::UnknownTask);
-    }
-    if n < number {
-        return refuse(Fault::UnknownTask);
-    }
-    Checked::Fine
-}
-
 // 16.
 fn check_allowance(allowance: u32) -> Checked
     ensures { λ r. ⌜ r ≡ allowanceFault allowance ⌝ }
@@ -113,7 +99,7 @@ fn judge_task(t: Table, task: Level, allowance: u32) -> Checked
     ensures { λ r. ⌜ r ≡ boundFault t task allowance ⌝ }
 {
     let own = checking::check(t);
-    let asked = check_asked(t.n, task);
+    let asked = rules::asked(t.n, task);
     let allowed = check_allowance(allowance);
     rules::first_of(own, rules::first_of(asked, allowed))
 }

@@ -82,8 +82,7 @@ text-right s t q = go (states-up-to s)
         → readText (tableOf f) (leftBy (f .tasks)) (2 + lineCount (f .tasks)) left ≡ accepted t → Right s t
     later before left f e states g (at-end w) q =
         let r = end-is (leftBy (f .tasks)) (2 + lineCount (f .tasks)) w (sym (stop-end (tableOf f) (leftBy (f .tasks)) (2 + lineCount (f .tasks)) w) ∙ q) in
-        let n = left-counts (f .tasks) in
-        (
+        let n = left-counts (f .tasks) in (
           f,
           rw (e, r .all, append-nil before) states,
           record { so-far = g; tasks-least = rw (n .0) at (r .some); alphas = all-or-none-is _ _ .0 (rw (n .0, n .1) at (r .alphas)) },

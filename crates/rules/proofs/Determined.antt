@@ -4,6 +4,7 @@ use mathlib.Core.Path.{sym, _∙_}
 use Rattle.basics.specs.Determined.{Determined}
 use Rattle.rules.proofs.all_or_none.Reads as all-or-none
 use Rattle.rules.proofs.alpha.Reads as alpha
+use Rattle.rules.proofs.asked.Reads as asked
 use Rattle.rules.proofs.first_of.Reads as first-of
 use Rattle.rules.proofs.in_range.Reads as in-range
 use Rattle.rules.proofs.pair.Reads as pair
@@ -42,3 +43,6 @@ all-or-none-determined a x y r s p q = p ∙ sym q
 
 pub alpha-determined : Determined (alpha.Learnt tt)
 alpha-determined a x y r s p q = p ∙ sym q
+
+pub asked-determined : Determined (asked.Learnt tt)
+asked-determined a x y r s p q = p ∙ sym q

@@ -1,10 +1,11 @@
-// The rules that a table and a listing are both held to: 4, 5, 7, 17 and 18. And which of two refusals is given.
+// The rules that a table and a listing are both held to: 4, 5, 7, 17 and 18; and 10, of a task that is asked about. And which of two refusals is given.
 ghost use mathlib.Core.Path.{_≡_};
 ghost use Rattle.basics.specs.Choice.{within};
 ghost use Rattle.table.specs.Faults.{_then_};
-ghost use Rattle.table.specs.Rules.{timesInRange, timesInOrder, timesFault, allOrNone, mayFollow, alphaFault, isUnused, usedInRange, pairInRange, totalsFit, pairFault};
+ghost use Rattle.table.specs.Rules.{timesInRange, timesInOrder, timesFault, allOrNone, mayFollow, alphaFault, isUnused, usedInRange, pairInRange, totalsFit, pairFault, askedFault};
 use table::Checked;
 use table::Fault;
+use table::Level;
 use table::Pair;
 use table::Refusal;
 use table::Table;
@@ -169,6 +170,26 @@ pub fn pair(place: u32, p: Pair, sum: u64, run: u32) -> Checked
         return Checked::Refused(Refusal {
             fault: Fault::BadTotals,
             place,
+        });
+    }
+    Checked::Fine
+}
+
+// 10, of a table of n tasks.
+pub fn asked(n: usize, task: Level) -> Checked
+    ensures { λ r. ⌜ r ≡ askedFault n task ⌝ }
+{
+    let number = task.0 as usize;
+    if number < 1 {
+        return Checked::Refused(Refusal {
+            fault: Fault::UnknownTask,
+            place: 0,
+        });
+    }
+    if n < number {
+        return Checked::Refused(Refusal {
+            fault: Fault::UnknownTask,
+            place: 0,
         });
     }
     Checked::Fine

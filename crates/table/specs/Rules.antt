@@ -5,11 +5,12 @@ use mathlib.Core.Bool.{Bool, _&&_, _||_}
 use lib.Dec.{leb, ltb, eqb}
 use Rattle.basics.specs.Choice.{pick, within}
 use Rattle.basics.specs.Over.{sumTo, countTo}
+use Rattle.table.specs.declared.Level.{Level}
 use Rattle.table.specs.declared.Pair.{Pair}
 use Rattle.table.specs.declared.Task.{Task}
 use Rattle.table.specs.declared.Table.{Table}
 use Rattle.table.specs.declared.Checked.{Checked}
-use Rattle.table.specs.declared.Fault.the-variants.{OutOfRange, BadTimes, BadTotals, TooManyTasks, NoTask, AlphaMissing, AlphaRises}
+use Rattle.table.specs.declared.Fault.the-variants.{OutOfRange, BadTimes, BadTotals, TooManyTasks, NoTask, UnknownTask, AlphaMissing, AlphaRises}
 use Rattle.table.specs.Limits.{maxCpus, maxTasks, maxResources, maxTime, maxCount, maxAlpha}
 use Rattle.table.specs.At.{taskAt, alphaAt, pairOf, totalOf}
 use Rattle.table.specs.Faults.{_then_, unless, firstFault}
@@ -119,3 +120,9 @@ tableFault t =
     unless (within 1 maxCpus (t .cpus)) OutOfRange 0 then
     unless (allOrNone (alphasTo t (t .n)) (t .n)) AlphaMissing 0 then
     tasksFault t
+
+-- ---- a task of it
+
+-- 10, after the table's own: "the task asked about is 0 or above n"
+abbrev pub askedFault : ℕ → Level → Checked
+askedFault n i = unless (within 1 n (i .0)) UnknownTask 0

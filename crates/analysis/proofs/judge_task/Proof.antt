@@ -13,7 +13,7 @@ returns c =
     let a = i .before in
     let k = a .before in
     c .first-of2 .ensures
-    ∙ ap₂ _then_ (k .before .check .ensures) (i .first-of .ensures ∙ ap₂ _then_ (k .check-asked .ensures) (a .check-allowance .ensures))
+    ∙ ap₂ _then_ (k .before .check .ensures) (i .first-of .ensures ∙ ap₂ _then_ (k .asked .ensures) (a .check-allowance .ensures))
 
 pub judge-task-spec : {M : Type 1} → statement M
 judge-task-spec = tie.close (tie.spec (λ c κs. search needs) (λ c κs. search needs) (λ c κs. search needs) (λ c κs. search needs) (λ c κs. search needs) returns)

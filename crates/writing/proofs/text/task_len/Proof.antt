@@ -19,8 +19,7 @@ abbrev μ-loop : tie.MeasureT-loop
 
 loop-holds : tie.Need-loop-holds Inv-loop μ-loop
 loop-holds c =
-    let x = c .before .before .args .t1 in
-    (
+    let x = c .before .before .args .t1 in (
       omega arith,
       omega arith,
       omega (arith, length-append (timesText x) (alphaText (x .alpha)), ap length (none-yet (ownText x) (pairText x))),
