@@ -79,7 +79,7 @@ fn by_demand(table: &Table, demand: Demand) -> Vec<Found> {
 
 fn told_apart(wrong: &Wrong) {
     let table = listing::read(wrong.listing.as_bytes()).expect("an accepted listing");
-    let (right, printed) = (report::text(wrong.listing.as_bytes(), REPORT), report::accepted(&by_demand(&table, wrong.demand)));
+    let (right, printed) = (report::verdicts(&table, REPORT), report::accepted(&by_demand(&table, wrong.demand)));
     let unlike: Vec<(&str, &str)> = right.lines().zip(printed.lines()).filter(|(a, b)| a != b).collect();
     assert_eq!(unlike, [(wrong.right, wrong.printed)], "{} on\n{}", wrong.name, wrong.listing);
 }

@@ -1,6 +1,6 @@
 //! Listings made by hand: the paper's points and refusals, and the edges of every rule.
 
-use crate::table::BYTES;
+use crate::table::{Refusal, BYTES};
 
 pub const CASE_A: &str = "cpus 2\ntask 10 2.5 10\nuse 1 1 0.5 0.5\ntask 20 4 15\ntask 30 6 30\nuse 1 2 0.75 1.5\n";
 
@@ -144,6 +144,163 @@ pub const SPINNING: &str = "cpus 2\ntask 20 1 20\nuse 1 1 1 1\ntask 20 5 20\ntas
 
 /// The first demand that is worked out ends it: that of task 1 repeats, and that of task 2 passes its D.
 pub const ONE_ROUND: &str = "cpus 1\ntask 0.001 0.001 0.001\ntask 0.001 0.001 0.001\n";
+
+/// The point of request 8/12: task 1's A and N are 2, and the lower values are 300, 700 and 400. Task 2 waits by its second lock alone, for the one
+/// value of task 3; task 3 is the lowest.
+pub const WAITING: &str = "cpus 2
+task 10 1 10
+alpha 2
+use 1 2 0.1 0.2
+task 10 1 10
+alpha 2
+use 2 1 0.3 0.3
+use 3 1 0.7 0.7
+task 10 1 10
+alpha 2
+use 2 1 0.4 0.4
+";
+
+/// Lower values that are equal, on one lock and on several, of one task and of two; and larger ones on a lock that the task uses itself. So what counts is
+/// seen in the waits, 12,100 and 9,300.
+pub const EQUAL_VALUES: &str = "cpus 1
+task 100 10 100
+alpha 3
+use 1 2 1 1
+use 2 3 1 1
+task 100 10 100
+alpha 2
+use 1 4 0.5 2
+use 3 1 0.7 0.7
+use 4 1 0.8 0.8
+task 100 10 100
+alpha 1
+use 1 1 0.9 0.9
+use 2 1 0.7 0.7
+use 4 2 0.8 1.5
+";
+
+/// Task 1 has a lock that nobody else uses, task 2 has none, and task 3 is the lowest.
+pub const NO_LOCKS: &str = "cpus 1\ntask 10 1 10\nalpha 1\nuse 1 3 0.1 0.1\ntask 10 1 10\nalpha 1\ntask 10 1 10\nalpha 1\nuse 2 1 0.5 0.5\nuse 3 1 0.5 0.5\n";
+
+/// Lines about alpha, from the second on, with the refusal of the last line, or 0 if they are accepted; of 17 the place is 0.
+pub const ALPHA: &[(u32, &[&str])] = &[
+    // right after its task line, from 1 to 64, in any spelling of a count
+    (0, &[
+        "task 10 5 10\nalpha 1",
+        "task 10 5 10\nalpha 64",
+        "task 10 5 10\nalpha 0064",
+        "task 10 5 10\nalpha 064",
+        "task 10 5 10\nalpha 0001",
+        "task 10 5 10\nalpha 2\nuse 1 1 1 1\nuse 2 1 1 1",
+    ]),
+    // never rising
+    (0, &[
+        "task 10 5 10\nalpha 2\ntask 10 5 10\nalpha 2",
+        "task 10 5 10\nalpha 2\ntask 10 5 10\nalpha 0002",
+        "task 10 5 10\nalpha 64\ntask 10 5 10\nalpha 1",
+        "task 10 5 10\nalpha 3\nuse 1 1 1 1\ntask 10 5 10\nalpha 2\nuse 1 1 1 1\ntask 10 5 10\nalpha 1\nuse 1 1 1 1",
+    ]),
+    // a wrong number of fields, an empty one, another word
+    (2, &[
+        "task 10 5 10\nalpha",
+        "task 10 5 10\nalpha 1 1",
+        "task 10 5 10\nalpha 1 1 1",
+        "task 10 5 10\nalpha 1 1 1 1",
+        "task 10 5 10\nalpha ",
+        "task 10 5 10\nalpha  1",
+        "task 10 5 10\nalpha 1 ",
+        "task 10 5 10\n alpha 1",
+        "task 10 5 10\nalpha\t1",
+        "task 10 5 10\nalpha1",
+        "task 10 5 10\nAlpha 1",
+        "task 10 5 10\nalph 1",
+        "task 10 5 10\nalphas 1",
+    ]),
+    // not right after a task line: a second one, one after a use, one before any task
+    (2, &[
+        "task 10 5 10\nalpha 1\nalpha 1",
+        "task 10 5 10\nuse 1 1 1 1\nalpha 1",
+        "task 10 5 10\nalpha 1\nuse 1 1 1 1\nalpha 1",
+        "task 10 5 10\nalpha 1\nuse 1 1 1 1\nuse 2 1 1 1\nalpha 1",
+        "task 10 5 10\nalpha 1\ntask 10 5 10\nuse 1 1 1 1\nalpha 1",
+        "alpha 1",
+    ]),
+    // 2 comes before 3, 4 and 18
+    (2, &[
+        "task 10 5 10\nalpha x 1",
+        "task 10 5 10\nalpha 0 0",
+        "task 10 5 10\nalpha 1\nalpha x",
+        "task 10 5 10\nalpha 1\nalpha 65",
+        "task 10 5 10\nalpha 1\nalpha 2",
+        "task 10 5 10\nuse 1 1 1 1\nalpha 00064",
+        "task 10 5 10\nuse 1 1 1 1\nalpha 0",
+        "task 10 5 10\nalpha 1\ntask 10 5 10\nuse 1 1 1 1\nalpha 2",
+        "alpha x",
+        "alpha 0",
+    ]),
+    // no count; also where 4 or 18 would come after
+    (3, &[
+        "task 10 5 10\nalpha x",
+        "task 10 5 10\nalpha 1x",
+        "task 10 5 10\nalpha -1",
+        "task 10 5 10\nalpha +1",
+        "task 10 5 10\nalpha 1.0",
+        "task 10 5 10\nalpha 2.",
+        "task 10 5 10\nalpha 1\r",
+        "task 10 5 10\nalpha 00064",
+        "task 10 5 10\nalpha 00001",
+        "task 10 5 10\nalpha 00000",
+        "task 10 5 10\nalpha 10000",
+        "task 10 5 10\nalpha 4294967297",
+        "task 10 5 10\nalpha 1\ntask 10 5 10\nalpha 00002",
+    ]),
+    // out of range; also where 18 would come after. A byte would read 256 as 0, and 257 as 1
+    (4, &[
+        "task 10 5 10\nalpha 0",
+        "task 10 5 10\nalpha 0000",
+        "task 10 5 10\nalpha 65",
+        "task 10 5 10\nalpha 0065",
+        "task 10 5 10\nalpha 200",
+        "task 10 5 10\nalpha 256",
+        "task 10 5 10\nalpha 257",
+        "task 10 5 10\nalpha 9999",
+        "task 10 5 10\nalpha 1\ntask 10 5 10\nalpha 65",
+        "task 10 5 10\nalpha 1\ntask 10 5 10\nalpha 0",
+        "task 10 5 10\ntask 10 5 10\nalpha 65",
+    ]),
+    // above that of the task before
+    (18, &[
+        "task 10 5 10\nalpha 1\ntask 10 5 10\nalpha 2",
+        "task 10 5 10\nalpha 63\ntask 10 5 10\nalpha 64",
+        "task 10 5 10\nalpha 9\ntask 10 5 10\nalpha 0010",
+        "task 10 5 10\nalpha 1\nuse 1 1 1 1\ntask 10 5 10\nalpha 64",
+        "task 10 5 10\nalpha 3\ntask 10 5 10\nalpha 2\ntask 10 5 10\nalpha 3",
+        "task 10 5 10\nalpha 3\ntask 10 5 10\nalpha 3\ntask 10 5 10\nalpha 4",
+    ]),
+    // above that of the last task before that has one, so that 17 is never reached
+    (18, &[
+        "task 10 5 10\nalpha 2\ntask 10 5 10\ntask 10 5 10\nalpha 3",
+        "task 10 5 10\nalpha 2\ntask 10 5 10\nuse 1 1 1 1\ntask 10 5 10\ntask 10 5 10\nalpha 3",
+        "task 10 5 10\nalpha 2\ntask 10 5 10\ntask 10 5 10\nalpha 1\ntask 10 5 10\nalpha 2",
+        "task 10 5 10\ntask 10 5 10\nalpha 2\ntask 10 5 10\nalpha 3",
+    ]),
+    // for some tasks only
+    (17, &[
+        "task 10 5 10\nalpha 2\ntask 10 5 10",
+        "task 10 5 10\ntask 10 5 10\nalpha 2",
+        "task 10 5 10\nalpha 2\ntask 10 5 10\ntask 10 5 10\nalpha 2",
+        "task 10 5 10\nalpha 2\ntask 10 5 10\ntask 10 5 10\nalpha 1",
+        "task 10 5 10\ntask 10 5 10\nalpha 2\ntask 10 5 10",
+        "task 10 5 10\nalpha 2\nuse 1 1 1 1\ntask 10 5 10\nuse 1 1 1 1\nuse 2 1 1 1",
+    ]),
+    // 17 comes at the end: the last line's own refusal is before it
+    (2, &["task 10 5 10\nalpha 2\ntask 10 5 10\n", "task 10 5 10\nalpha 2\ntask 10 5 10\nalpha"]),
+    (3, &["task 10 5 10\nalpha 2\ntask 10 5 10\nuse 1 x 1 1"]),
+    (4, &["task 10 5 10\nalpha 2\ntask 10 5 10\nuse 17 1 1 1", "task 10 5 10\nalpha 2\ntask 10 5 10\ntask 0 5 10"]),
+    (5, &["task 10 5 10\nalpha 2\ntask 10 11 10"]),
+    (6, &["task 10 5 10\nalpha 2\ntask 10 5 10\nuse 1 1 1 1\nuse 1 1 1 1"]),
+    (7, &["task 10 5 10\nalpha 2\ntask 10 5 10\nuse 1 1 6 6"]),
+];
 
 /// Times, and what they are in microseconds: rounded down, rounded up.
 pub const SPELLED: &[(&str, u64, u64)] = &[
@@ -321,9 +478,14 @@ fn largest() -> String {
     every_pair("10000.000 00016.000 10000.000", "00000.001 00000.999")
 }
 
+/// The same with alpha, 64 for every task: as many lower pairs count as can.
+fn largest_with_alpha() -> String {
+    with_alpha(&largest(), 64)
+}
+
 /// Each field as long as it can be spelled: the longest listing that is accepted.
 pub fn longest() -> String {
-    every_pair("10000.000000 00016.000000 10000.000000", "00000.000001 00000.999999")
+    every_pair("10000.000000 00016.000000 10000.000000\nalpha 0064", "00000.000001 00000.999999")
 }
 
 /// Request 6/12: what task 1 runs makes task 2's length climb by one a round, from a C of 1. Task 1 lets go just before task 2's deadline, which
@@ -495,8 +657,9 @@ pub fn listings() -> Vec<Vec<u8>> {
     all.extend(rounds().into_iter().map(String::into_bytes));
     all.extend(longer().into_iter().map(String::into_bytes));
     all.extend([BACKLOG, BACKLOG_BELOW, BACKLOG_ABOVE, QUEUED, TO_THE_LETTER, UNINHERITED, SPINNING].map(|text| text.as_bytes().to_vec()));
-    all.push(largest().into_bytes());
-    all.push(longest().into_bytes());
+    all.extend(alphas().into_iter().map(|(text, _)| text.into_bytes()));
+    all.extend(waits().into_iter().map(|(text, _)| text.into_bytes()));
+    all.extend([largest(), largest_with_alpha(), longest()].map(String::into_bytes));
     // a miss, and a bound, in the very last round that `report` allows
     all.extend([slow(), steps(10_000_000)].map(String::into_bytes));
     for length in [BYTES - 1, BYTES, BYTES + 1, BYTES + 2, 2 * BYTES] {
@@ -605,6 +768,91 @@ fn longer() -> Vec<String> {
     all
 }
 
+/// The listing with the alpha of each task, counted from 0, after its line, if the task has one.
+fn with_alphas(text: &str, alpha: impl Fn(usize) -> Option<u64>) -> String {
+    let (mut lines, mut tasks) = (String::new(), 0);
+    for line in text.lines() {
+        lines.push_str(&format!("{line}\n"));
+        if line.starts_with("task ") {
+            lines.extend(alpha(tasks).map(|alpha| format!("alpha {alpha}\n")));
+            tasks += 1;
+        }
+    }
+    lines
+}
+
+/// The listing with the same alpha for all its tasks.
+pub fn with_alpha(text: &str, alpha: u64) -> String {
+    with_alphas(text, |_| Some(alpha))
+}
+
+/// The listing without the lines of alpha.
+pub fn without_alpha(text: &str) -> String {
+    text.lines().filter(|line| !line.starts_with("alpha ")).map(|line| format!("{line}\n")).collect()
+}
+
+/// Request 8/12: listings with the refusal that each gets, if any.
+pub fn alphas() -> Vec<(String, Option<Refusal>)> {
+    let mut all = Vec::new();
+    for (number, lines) in ALPHA.iter().flat_map(|(number, all)| all.iter().map(move |lines| (*number, *lines))) {
+        let text = format!("cpus 2\n{lines}\n");
+        let last = text.matches('\n').count() as u32;
+        all.push((text, if number == 0 { None } else { Some((number, if number == 17 { 0 } else { last })) }));
+    }
+    all.push(("alpha 1\n".into(), Some((2, 1))));
+    all.push(("alpha 1\ncpus 2\ntask 10 5 10\n".into(), Some((2, 1))));
+    all.push(("cpus 2\nalpha 2\ntask 10 5 10\nalpha 2\n".into(), Some((2, 2))));
+    all.push(("cpus 2\ntask 10 5 10\nalpha 2".into(), Some((2, 3))));
+    all.push(("cpus 2\ntask 10 5 10\nalpha 2\ntask 10 5 10".into(), Some((2, 4))));
+    // 32 tasks and one more
+    all.push((with_alpha(&tasks(32), 64), None));
+    all.push((with_alpha(&tasks(32), 1), None));
+    all.push((with_alphas(&tasks(32), |i| Some(64 - i as u64)), None));
+    all.push((with_alphas(&tasks(32), |i| Some(32 - i as u64)), None));
+    all.push((with_alphas(&tasks(32), |i| (i < 31).then_some(5)), Some((17, 0))));
+    all.push((with_alphas(&tasks(32), |i| (i > 0).then_some(5)), Some((17, 0))));
+    all.push((with_alphas(&tasks(32), |i| (i == 31).then_some(5)), Some((17, 0))));
+    all.push((with_alphas(&tasks(32), |i| Some(5 + i as u64 / 31)), Some((18, 65))));
+    all.push((with_alphas(&tasks(32), |i| if i == 0 { Some(5) } else { (i == 31).then_some(6) }), Some((18, 35))));
+    all.push((with_alphas(&tasks(33), |_| Some(5)), Some((8, 66))));
+    all.push((with_alphas(&tasks(33), |i| (i < 32).then_some(5)), Some((8, 66))));
+    all.push((with_alpha(CASE_A, 64), None));
+    all
+}
+
+/// Request 8/12: listings with the wait of each task.
+pub fn waits() -> Vec<(String, Vec<u64>)> {
+    let point = |alpha: &str| WAITING.replacen("alpha 2", alpha, 1);
+    let equal = |alpha: &str| point(alpha).replace("0.4 0.4", "0.7 0.7");
+    let cpus = |m: u64| WAITING.replace("cpus 2", &format!("cpus {m}"));
+    let mut all = vec![
+        (WAITING.into(), vec![2_200, 400, 0]),
+        // all count, and more than there are
+        (point("alpha 3"), vec![2_800, 400, 0]),
+        (point("alpha 4"), vec![2_800, 400, 0]),
+        (point("alpha 64"), vec![2_800, 400, 0]),
+        // 300, 700 and 700: of the two that are equal one counts, or both
+        (WAITING.replace("alpha 2", "alpha 1").replace("0.4 0.4", "0.7 0.7"), vec![1_400, 700, 0]),
+        (equal("alpha 2"), vec![2_800, 700, 0]),
+        (equal("alpha 3"), vec![3_400, 700, 0]),
+        (EQUAL_VALUES.into(), vec![12_100, 9_300, 0]),
+        (NO_LOCKS.into(), vec![1_500, 0, 0]),
+        (with_alpha("cpus 1\ntask 10 1 10\nuse 1 1 1 1\n", 64), vec![0]),
+        (with_alpha("cpus 1\ntask 10 1 10\ntask 10 1 10\n", 1), vec![0, 0]),
+        (with_alpha(CASE_A, 1), vec![0, 0, 0]),
+        (longest_wait(), [vec![4_650_000_000_000], vec![0; 31]].concat()),
+    ];
+    // how many processors there are makes no difference
+    all.extend([1, 3, 64].map(|m| (cpus(m), vec![2_200, 400, 0])));
+    all
+}
+
+/// No wait is longer: task 1 uses every lock a thousand times, and each of the others holds one and the same for ten seconds.
+pub fn longest_wait() -> String {
+    let uses: String = (1..=16).map(|k| format!("use {k} 1000 0.001 0.001\n")).collect();
+    format!("cpus 1\ntask 10000 1 10000\nalpha 64\n{uses}{}", "task 10000 10000 10000\nalpha 64\nuse 1 1 10000 10000\n".repeat(31))
+}
+
 /// A full table: 32 tasks, 16 locks, half of the pairs in use, periods from 20 ms to 10 s.
 fn full() -> String {
     let mut text = String::from("cpus 4\n");
@@ -625,10 +873,11 @@ fn ms(us: u64) -> String {
 }
 
 /// What the benchmark runs both programs on.
-pub fn benchmark() -> [(&'static str, String); 7] {
+pub fn benchmark() -> [(&'static str, String); 8] {
     [
         ("full", full()),
         ("largest", largest()),
+        ("largest-alpha", largest_with_alpha()),
         ("slow", slow()),
         ("long-climb", long_climb()),
         ("slow-meets", slow_meets()),

@@ -8,7 +8,7 @@ use std::process::{Child, Command, Output, Stdio};
 use crate::analysis::{found_by, quick, By, Found, UNLIMITED};
 use crate::programs::Said;
 use crate::random::Random;
-use crate::report::{self, BENCH, REPORT};
+use crate::report::{self, Program, BENCH, REPORT};
 use crate::table::Table;
 use crate::{cases, generate, listing, strides};
 
@@ -137,7 +137,7 @@ fn outcome(text: &str) -> String {
 /// Tasks that take just the rounds that `bench` allows, and those that take one more, by what `report` says of them.
 fn count_nearly_open(tally: &mut Tally, reported: &str) {
     for line in reported.lines().skip(1) {
-        if let [_, verdict, _, rounds] = line.split(' ').collect::<Vec<_>>()[..] {
+        if let [_, verdict, _, rounds, _] = line.split(' ').collect::<Vec<_>>()[..] {
             match rounds.parse() {
                 Ok(BENCH) => tally.count(format!("{verdict}, just in time")),
                 Ok(rounds) if rounds == BENCH + 1 => tally.count(format!("open, and {verdict} a round later")),
@@ -281,15 +281,15 @@ pub fn reports(report: &str, bench: &str) -> bool {
     let mut tallies = Reports::new();
     for listing in listings() {
         let started = [report, bench].map(|program| start(program, &listing));
-        let [reported, benched] = report::texts(&listing, [REPORT, BENCH]);
+        let [reported, benched] = report::texts(&listing, [Program::Report, Program::Bench]);
         assert!(!reported.contains(" open "), "more rounds than report allows:\n{}", String::from_utf8_lossy(&listing));
         let [by_report, by_bench] = started.map(Started::answer);
         if !by_report.is(&reported) {
-            differs(report, REPORT, &listing);
+            differs(report, Program::Report, &listing);
             return false;
         }
         if !by_bench.is(&benched) {
-            differs(bench, BENCH, &listing);
+            differs(bench, Program::Bench, &listing);
             return false;
         }
         tallies.count(&listing, &reported, &benched);
@@ -307,8 +307,8 @@ pub fn reports(report: &str, bench: &str) -> bool {
 }
 
 /// Prints a small listing on which the two programs differ: lines are taken out as long as they still do.
-fn differs(program: &str, allowance: u64, listing: &[u8]) {
-    let unlike = |bytes: &[u8]| !run(program, bytes).is(report::text(bytes, allowance));
+fn differs(program: &str, which: Program, listing: &[u8]) {
+    let unlike = |bytes: &[u8]| !run(program, bytes).is(report::text(bytes, which));
     let mut small = listing.to_vec();
     let mut shrunk = true;
     while shrunk {
@@ -324,6 +324,6 @@ fn differs(program: &str, allowance: u64, listing: &[u8]) {
         }
     }
     println!("The programs differ on this listing:\n{}", String::from_utf8_lossy(&small));
-    println!("here:\n{}", report::text(&small, allowance));
+    println!("here:\n{}", report::text(&small, which));
     println!("{program}:\n{}", run(program, &small));
 }

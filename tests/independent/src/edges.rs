@@ -1,6 +1,7 @@
-//! Tables a step inside and a step outside every limit. Chance seldom sets a field of a used pair to just such a number.
+//! Tables a step inside and a step outside every limit. Chance seldom sets a field of a used pair to just such a number. And tables with alpha whose
+//! refusal is known.
 
-use crate::table::{Lock, Table, Task, COUNT, CPUS, TIME};
+use crate::table::{Lock, Refusal, Table, Task, ALPHA, COUNT, CPUS, TASKS, TIME};
 
 /// The locks that are changed in both tasks: 1 both use, 2 and 16 one does, 8 neither.
 const CHANGED: [usize; 4] = [0, 1, 7, 15];
@@ -51,4 +52,134 @@ pub fn tables() -> Vec<Table> {
         }
     }
     all
+}
+
+/// The base with three tasks, of which the last is like the second, and with these alphas in the first slots.
+fn with_alphas(alphas: &[u64]) -> Table {
+    let mut table = Table { n: 3, ..base() };
+    table.tasks[2] = table.tasks[1];
+    table.tasks.iter_mut().zip(alphas).for_each(|(task, alpha)| task.alpha = *alpha);
+    table
+}
+
+/// As many tasks as there can be, with these alphas.
+fn with_most_tasks(alpha: impl Fn(u64) -> u64) -> Table {
+    let mut table = Table { n: TASKS as u64, ..base() };
+    for (i, task) in (0..).zip(&mut table.tasks) {
+        *task = Task { alpha: alpha(i), ..base().tasks[1] };
+    }
+    table
+}
+
+/// The table with one task changed, counted from 1.
+fn with_task(mut table: Table, number: usize, change: fn(&mut Task)) -> Table {
+    change(&mut table.tasks[number - 1]);
+    table
+}
+
+/// A table with its name, and the refusal that it gets, if any.
+pub type Named = (&'static str, Table, Option<Refusal>);
+
+/// Request 8/12: where alpha is refused, and what comes before and after.
+pub fn alphas() -> Vec<Named> {
+    [accepted(), for_some(), out_of_range(), rising(), past_the_last()].concat()
+}
+
+fn accepted() -> Vec<Named> {
+    vec![
+        ("no alpha", with_alphas(&[0, 0, 0]), None),
+        ("the least alpha", with_alphas(&[1, 1, 1]), None),
+        ("the largest alpha", with_alphas(&[64, 64, 64]), None),
+        ("falling alphas", with_alphas(&[64, 2, 1]), None),
+        ("32 tasks with the largest alpha", with_most_tasks(|_| ALPHA), None),
+        ("32 tasks with falling alphas", with_most_tasks(|i| ALPHA - i), None),
+        ("one task with alpha", Table { n: 1, ..with_alphas(&[64]) }, None),
+    ]
+}
+
+/// What 17 is for, which looks at whether there is one and not at its range. It comes after m and before all tasks.
+fn for_some() -> Vec<Named> {
+    let mixed = || with_alphas(&[2, 0, 2]);
+    let some = Some((17, 0));
+    vec![
+        ("alpha of the first task only", with_alphas(&[2, 0, 0]), some),
+        ("alpha of the second task only", with_alphas(&[0, 2, 0]), some),
+        ("alpha of the last task only", with_alphas(&[0, 0, 2]), some),
+        ("no alpha of the first task", with_alphas(&[0, 2, 2]), some),
+        ("no alpha of the second task", mixed(), some),
+        ("no alpha of the last task", with_alphas(&[2, 2, 0]), some),
+        ("no alpha of the last of 32 tasks", with_most_tasks(|i| (i < 31) as u64), some),
+        ("alpha of the last of 32 tasks only", with_most_tasks(|i| (i == 31) as u64), some),
+        ("17 before 4: 200 is given, and another has none", with_alphas(&[200, 0, 0]), some),
+        ("17 before 4: none, and then 200", with_alphas(&[0, 0, 200]), some),
+        ("17 before 4: the most that a word holds", with_alphas(&[u32::MAX as u64, 64, 0]), some),
+        ("17 before 4: a multiple of 256", with_alphas(&[256, 0, 0]), some),
+        ("17 before 4 of T", with_task(mixed(), 1, |task| task.t = 0), some),
+        ("17 before 4 of C", with_task(mixed(), 1, |task| task.c = TIME + 1), some),
+        ("17 before 4 of a lock", with_task(mixed(), 1, |task| task.locks[7].c = 1), some),
+        ("17 before 5", with_task(mixed(), 1, |task| task.d = TIME - 1), some),
+        ("17 before 7", with_task(mixed(), 1, |task| task.locks[0].ct = 1), some),
+        ("17 before 18", with_alphas(&[2, 3, 0]), some),
+        ("17 after 4 of m, 0", Table { m: 0, ..mixed() }, Some((4, 0))),
+        ("17 after 4 of m, 65", Table { m: 65, ..mixed() }, Some((4, 0))),
+        ("17 after 8", Table { n: 33, ..mixed() }, Some((8, 0))),
+        ("17 after 8, which the high word shows", Table { n: (1 << 32) + 3, ..mixed() }, Some((8, 0))),
+        ("17 after 9", Table { n: 0, ..mixed() }, Some((9, 0))),
+    ]
+}
+
+/// What 4 is for. It comes after T, C and D of its task, which get the same number, and before 18 and 5.
+fn out_of_range() -> Vec<Named> {
+    let beyond = || with_alphas(&[65, 65, 65]);
+    vec![
+        ("65 of every task", beyond(), Some((4, 1))),
+        ("200 of every task", with_alphas(&[200, 200, 200]), Some((4, 1))),
+        ("256 of every task", with_alphas(&[256, 256, 256]), Some((4, 1))),
+        ("257 of every task", with_alphas(&[257, 257, 257]), Some((4, 1))),
+        ("the most that a word holds", with_alphas(&[u32::MAX as u64; 3]), Some((4, 1))),
+        ("65 of the last task", with_alphas(&[64, 64, 65]), Some((4, 3))),
+        ("65 of one task", Table { n: 1, ..with_alphas(&[65]) }, Some((4, 1))),
+        ("4 of alpha and of T", with_task(beyond(), 1, |task| task.t = 0), Some((4, 1))),
+        ("4 of alpha before 18", with_alphas(&[2, 65, 1]), Some((4, 2))),
+        ("4 of alpha before 5", with_task(beyond(), 1, |task| task.d = TIME - 1), Some((4, 1))),
+        ("4 of alpha before 5 at the last task", with_task(with_alphas(&[9, 9, 65]), 3, |task| task.c = 9_000_001), Some((4, 3))),
+        ("4 of alpha before 7", with_task(beyond(), 1, |task| task.locks[0].ct = 1), Some((4, 1))),
+        ("4 of alpha after 5 of the task before", with_task(with_alphas(&[9, 65, 9]), 1, |task| task.d = TIME - 1), Some((5, 1))),
+        ("4 of alpha after 18 of the task before", with_alphas(&[9, 10, 65]), Some((18, 2))),
+    ]
+}
+
+/// What 18 is for. It comes after 4 and before 5.
+fn rising() -> Vec<Named> {
+    let up = || with_alphas(&[2, 3, 3]);
+    vec![
+        ("one more than the first", up(), Some((18, 2))),
+        ("63 and 64", with_alphas(&[64, 63, 64]), Some((18, 3))),
+        ("more than the task before, less than the first", with_alphas(&[9, 2, 3]), Some((18, 3))),
+        ("more in the last of 32 tasks", with_most_tasks(|i| 1 + i / 31), Some((18, 32))),
+        ("18 after 4 of T", with_task(up(), 2, |task| task.t = 0), Some((4, 2))),
+        ("18 after 4 of C", with_task(up(), 2, |task| task.c = 0), Some((4, 2))),
+        ("18 after 4 of D", with_task(up(), 2, |task| task.d = TIME + 1), Some((4, 2))),
+        ("18 before 5", with_task(up(), 2, |task| task.d = 99), Some((18, 2))),
+        ("18 before 4 of a lock", with_task(up(), 2, |task| task.locks[7].c = 1), Some((18, 2))),
+        ("18 before 7", with_task(up(), 2, |task| task.locks[0].ct = 19), Some((18, 2))),
+        ("18 before 4 of the next task", with_task(up(), 3, |task| task.t = 0), Some((18, 2))),
+        ("18 after 5 of the task before", with_task(up(), 1, |task| task.d = TIME - 1), Some((5, 1))),
+        ("18 after 7 of the task before", with_task(up(), 1, |task| task.locks[0].ct = 1), Some((7, 1))),
+        ("5 beside a good alpha", with_task(with_alphas(&[2, 2, 2]), 2, |task| task.d = 99), Some((5, 2))),
+        ("7 beside a good alpha", with_task(with_alphas(&[2, 2, 2]), 2, |task| task.locks[0].ct = 19), Some((7, 2))),
+    ]
+}
+
+/// Slots past the nth are not looked at, for 17 neither.
+fn past_the_last() -> Vec<Named> {
+    let two = |alphas: &[u64]| Table { n: 2, ..with_alphas(alphas) };
+    vec![
+        ("alpha past the last task only", two(&[0, 0, 2]), None),
+        ("no alpha past the last task", two(&[2, 2, 0]), None),
+        ("a larger alpha past the last task", two(&[2, 2, 3]), None),
+        ("200 past the last task", two(&[2, 2, 200]), None),
+        ("200 past the last task only", two(&[0, 0, 200]), None),
+        ("alpha of the first task and past the last", two(&[2, 0, 2]), Some((17, 0))),
+    ]
 }

@@ -2,7 +2,7 @@
 
 use crate::listing::{self, Round};
 use crate::random::Random;
-use crate::table::{Lock, Table, Task, COUNT, LOCKS, TASKS, TIME};
+use crate::table::{Lock, Table, Task, ALPHA, COUNT, LOCKS, TASKS, TIME};
 
 /// A table that nothing is to be said against.
 pub fn table(r: &mut Random) -> Table {
@@ -98,6 +98,47 @@ fn of_short_period(r: &mut Random) -> Task {
         task.locks[r.one_in(2) as usize] = Lock { n: 1, c: ct, ct };
     }
     task
+}
+
+/// A table with many pairs in use and few different longest requests, and with alpha: which of them count, and how often, shows in its waits. In some
+/// every pair is in use. No run time is short beside the others, so that no length climbs for long.
+pub fn many_pairs(r: &mut Random) -> Table {
+    let n = *r.pick(&[2, 3, 4, 8, 16, 32, 32]) as usize;
+    let locks = *r.pick(&[1, 2, 3, 8, 16, 16]) as usize;
+    let every_pair = r.one_in(3);
+    let longest = *r.pick(&[1, 3, 40, 10_000, TIME / 80]);
+    let several = [(); 3].map(|()| r.within(1, longest));
+    let mut table = Table::zero();
+    (table.m, table.n) = (*r.pick(&[1, 2, 4, 64]), n as u64);
+    for task in &mut table.tasks[..n] {
+        for lock in &mut task.locks[..locks] {
+            if every_pair || r.one_in(2) {
+                let c = if r.one_in(4) { r.within(1, longest) } else { *r.pick(&several) };
+                let n = *r.pick(&[1, 1, 2, 3, 7, COUNT]);
+                *lock = Lock { n, c, ct: r.within(c, c * n.min(4)) };
+            }
+        }
+        let held: u64 = task.locks.iter().map(|lock| lock.ct).sum();
+        task.c = held + r.within(longest, 2 * longest);
+        task.d = r.within(task.c.max(TIME / 2), TIME);
+        task.t = r.within(task.d, TIME);
+    }
+    with_alpha(r, table)
+}
+
+/// The table with alpha for the tasks in use, never rising. It may begin so large that all pairs below count, or so small that hardly any do.
+pub fn with_alpha(r: &mut Random, mut table: Table) -> Table {
+    let mut alpha = *r.pick(&[1, 2, 3, 5, 16, ALPHA - 1, ALPHA]);
+    let falls = r.one_in(2);
+    for task in &mut table.tasks[..table.n.min(TASKS as u64) as usize] {
+        task.alpha = alpha;
+        alpha = match r.within(0, 9) {
+            0 if falls => r.within(1, alpha),
+            1..=3 if falls => (alpha - 1).max(1),
+            _ => alpha,
+        };
+    }
+    table
 }
 
 /// The first two kinds in turn, from a seed of their own.
@@ -380,7 +421,7 @@ pub fn raw_table(r: &mut Random) -> Table {
     // what stands past the nth slot is not looked at
     if r.one_in(2) {
         for slot in table.n as usize..TASKS {
-            table.tasks[slot] = Task { t: r.next() as u32 as u64, c: r.next() as u32 as u64, d: 0, locks: [Lock { n: 7, c: 9, ct: 3 }; LOCKS] };
+            table.tasks[slot] = Task { t: r.next() as u32 as u64, c: r.next() as u32 as u64, d: 0, alpha: 200, locks: [Lock { n: 7, c: 9, ct: 3 }; LOCKS] };
         }
     }
     for _ in 0..*r.pick(&[0, 1, 1, 1, 2, 3]) {

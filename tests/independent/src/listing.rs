@@ -1,6 +1,6 @@
-//! A listing to a table and back. Written from the paper's section 'The listing' and request 1/12.
+//! A listing to a table and back. Written from the paper's section 'The listing' and requests 1/12 and 8/12.
 
-use crate::table::{Lock, Refusal, Table, Task, BYTES, COUNT, CPUS, LOCKS, TASKS, TIME};
+use crate::table::{last_alpha, Lock, Refusal, Table, Task, ALPHA, BYTES, COUNT, CPUS, LOCKS, TASKS, TIME};
 use Round::{Down, Up};
 
 /// Which way a time goes to the whole microsecond.
@@ -17,7 +17,7 @@ pub fn read(bytes: &[u8]) -> Result<Table, Refusal> {
     if bytes.is_empty() {
         return Err((2, 1));
     }
-    let mut reader = Reader { table: Table::zero(), last: 0, sum: 0 };
+    let mut reader = Reader { table: Table::zero(), after_task: false, last: 0, sum: 0 };
     let mut rest = bytes;
     let mut line = 1;
     while !rest.is_empty() {
@@ -31,11 +31,17 @@ pub fn read(bytes: &[u8]) -> Result<Table, Refusal> {
     if reader.table.n == 0 {
         return Err((9, 2));
     }
+    let given = reader.table.used().iter().filter(|task| task.alpha > 0).count();
+    if given > 0 && given < reader.table.used().len() {
+        return Err((17, 0));
+    }
     Ok(reader.table)
 }
 
 struct Reader {
     table: Table,
+    /// Whether the line before is a task's.
+    after_task: bool,
     last: u64,
     sum: u64,
 }
@@ -49,9 +55,12 @@ impl Reader {
         match (words[0], words.len()) {
             (b"cpus", 2) if line == 1 => self.cpus(words[1]),
             (b"task", 4) if line > 1 => self.task(words[1], words[2], words[3]),
+            (b"alpha", 2) if self.after_task => self.alpha(words[1]),
             (b"use", 5) if self.table.n > 0 => self.lock(&words[1..]),
             _ => Err(2),
-        }
+        }?;
+        self.after_task = words[0] == b"task";
+        Ok(())
     }
 
     fn cpus(&mut self, m: &[u8]) -> Result<(), u32> {
@@ -70,9 +79,19 @@ impl Reader {
         if c > d || d > t {
             return Err(5);
         }
-        self.table.tasks[self.table.n as usize] = Task { t, c, d, locks: [Lock::default(); LOCKS] };
+        self.table.tasks[self.table.n as usize] = Task { t, c, d, ..Task::default() };
         self.table.n += 1;
         (self.last, self.sum) = (0, 0);
+        Ok(())
+    }
+
+    fn alpha(&mut self, a: &[u8]) -> Result<(), u32> {
+        let a = ranged(count(a)?, ALPHA)?;
+        let index = self.table.n as usize - 1;
+        if last_alpha(&self.table.tasks[..index]).is_some_and(|before| a > before) {
+            return Err(18);
+        }
+        self.table.tasks[index].alpha = a;
         Ok(())
     }
 
@@ -140,6 +159,10 @@ pub fn write(table: &Table) -> String {
     for task in table.used() {
         text.push_str("\ntask");
         [task.t, task.c, task.d].into_iter().for_each(|us| push_time(&mut text, us));
+        if task.alpha > 0 {
+            text.push_str("\nalpha");
+            push_count(&mut text, task.alpha);
+        }
         for (k, lock) in task.locks.iter().enumerate().filter(|(_, lock)| lock.n > 0) {
             text.push_str("\nuse");
             [k as u64 + 1, lock.n].into_iter().for_each(|x| push_count(&mut text, x));

@@ -46,8 +46,11 @@ mod simulation;
 mod story;
 mod strides;
 mod table;
+mod wait;
+mod waits;
 
 use programs::{Both, Said};
+use report::Program;
 use std::io::{Read, Write};
 use std::process::ExitCode;
 
@@ -55,8 +58,8 @@ fn main() -> ExitCode {
     let words: Vec<String> = std::env::args_os().skip(1).map(|word| word.to_string_lossy().into_owned()).collect();
     let words: Vec<&str> = words.iter().map(String::as_str).collect();
     match words[..] {
-        ["report"] => say(Ok(report::quick(&input(), report::REPORT).into_bytes())),
-        ["bench"] => say(Ok(report::quick(&input(), report::BENCH).into_bytes())),
+        ["report"] => say(Ok(report::quick(&input(), Program::Report).into_bytes())),
+        ["bench"] => say(Ok(report::quick(&input(), Program::Bench).into_bytes())),
         ["archive"] => say(programs::archive(&input())),
         ["unarchive"] => say(programs::unarchive(&input())),
         ["salvage"] => say_both(programs::salvage(&input())),

@@ -3,9 +3,9 @@
 
 use crate::analysis::{allowed, demand, found, found_by, terms, uncapped, workload, By, Found, Terms, Verdict};
 use crate::listing::Round::{Down, Up};
-use crate::report::{BENCH, REPORT};
+use crate::report::{Program, BENCH, REPORT};
 use crate::table::{Lock, Refusal, Table, Task, TIME};
-use crate::{cap, card, cards, cases, easier, falls, listing, no_easier, probe, programs, reads, report, rounds, salvage, salvages, story};
+use crate::{cap, card, cards, cases, easier, edges, falls, listing, no_easier, probe, programs, reads, report, rounds, salvage, salvages, story, wait, waits};
 
 /// Stops the comparison if a point fails.
 pub fn hold() {
@@ -29,6 +29,9 @@ pub fn hold() {
     no_easier::hold();
     longer();
     reads::hold();
+    alphas();
+    waiting();
+    waits::hold();
     probe::hold();
     println!("the points of the paper and of the requests hold in this program");
 }
@@ -43,11 +46,12 @@ fn with_deadline(d: &str) -> Table {
 }
 
 /// The rounds are those of request 6/12, which names them for case A. At 14.5 the repeated demand counts too, at 14.499 the one past D is the
-/// last.
+/// last. The column of the waits, which `report` alone has, is request 8/12's.
 fn case_a() {
-    let printed = "task verdict bound_us rounds\n1 meets 3250 2\n2 meets 4000 1\n3 meets 14500 6\n";
-    assert_eq!(report::text(cases::CASE_A.as_bytes(), REPORT), printed);
-    assert_eq!(report::text(cases::CASE_A.as_bytes(), BENCH), printed.replace("meets 14500 6", "open - 5"));
+    let printed = "task verdict bound_us rounds wait_us\n1 meets 3250 2 -\n2 meets 4000 1 -\n3 meets 14500 6 -\n";
+    assert_eq!(report::text(cases::CASE_A.as_bytes(), Program::Report), printed);
+    let benched = "task verdict bound_us rounds\n1 meets 3250 2\n2 meets 4000 1\n3 open - 5\n";
+    assert_eq!(report::text(cases::CASE_A.as_bytes(), Program::Bench), benched);
     let lengths = [6_000, 11_000, 12_500, 13_500, 14_250, 14_500, 14_500];
     let all = [Found::meets(3_250, 2), Found::meets(4_000, 1), Found::meets(14_500, 6)];
     // request 3/12 leaves it as it was
@@ -208,13 +212,14 @@ fn rounded() {
     assert_eq!(found(&table(cases::AS_TYPED), 1).verdict, Verdict::Misses);
 }
 
-/// The longest listing: every field at its longest, and every total at its most.
+/// The longest listing: every field at its longest, and every total at its most. And the longest text that is written of a table.
 fn longest() {
     let text = cases::longest();
-    assert_eq!(text.len(), 21_898);
+    assert_eq!(text.len(), 22_250);
     let lock = Lock { n: 1_000, c: 1, ct: 1_000 };
-    let task = Task { t: TIME, c: 16_000, d: TIME, locks: [lock; 16] };
+    let task = Task { t: TIME, c: 16_000, d: TIME, alpha: 64, locks: [lock; 16] };
     assert_eq!(table(&text), Table { m: 4, n: 32, tasks: [task; 32] });
+    assert_eq!(listing::write(&probe::longest()).len(), 15_944);
 }
 
 /// Request 2/12: the blocks of case A, and RFC 1071's own example of a sum.
@@ -389,4 +394,52 @@ fn holding_longer() {
     let typed = cases::FALLS_AS_READ.map(|text| table(text).used().iter().map(|task| (task.c, task.outside_locks())).collect::<Vec<_>>());
     assert_eq!(typed, [[(2, 1), (1, 1)], [(2, 0), (1, 1)]]);
     assert_eq!(cases::FALLS_AS_READ.map(verdicts), [[2, 5], [2, 3]].map(|bounds| bounds.map(Verdict::Meets)));
+}
+
+/// Request 8/12: where alpha stands in a listing and in a table, what is refused, and what is written of it.
+fn alphas() {
+    for (text, refusal) in cases::alphas() {
+        assert_eq!(listing::read(text.as_bytes()).err(), refusal, "{text}");
+    }
+    for (name, table, refusal) in edges::alphas() {
+        assert_eq!(table.check().err(), refusal, "{name}");
+    }
+    assert_eq!(first("task 10 5 10\nalpha 0064").map(|task| task.alpha), Ok(64));
+    assert_eq!(first("task 10 5 10").map(|task| task.alpha), Ok(0));
+    assert_eq!(report::text(b"cpus 2\ntask 10 5 10\nalpha 2\ntask 10 5 10\n", Program::Report), "refused 17 line 0\n");
+    // it is written after its task line, before the use lines; and tables that differ in it are not the same
+    assert_eq!(listing::write(&table(cases::WAITING)), cases::WAITING);
+    assert_eq!(listing::write(&table(&cases::WAITING.replace("alpha 2", "alpha 0002"))), cases::WAITING);
+    assert_eq!(table(cases::WAITING).without_alpha(), table(&cases::without_alpha(cases::WAITING)));
+    assert_ne!(table(cases::WAITING), table(&cases::without_alpha(cases::WAITING)));
+    assert_ne!(table(cases::WAITING), table(&cases::WAITING.replace("alpha 2", "alpha 1")));
+    dropped();
+}
+
+/// The archive has no alpha: the card is that of the table without, and what is read of it too.
+fn dropped() {
+    let without = cases::without_alpha(cases::WAITING);
+    let card = card::write(&table(cases::WAITING));
+    assert_eq!(card, card::write(&table(&without)));
+    assert_eq!(card::read(&card), Ok(table(&without)));
+    assert_eq!(programs::archive(cases::WAITING.as_bytes()), Ok(card.clone()));
+    assert_eq!(programs::unarchive(&card), Ok(without.into()));
+    assert_eq!(programs::archive(b"cpus 2\ntask 10 5 10\nalpha 2\ntask 10 5 10\n"), Err("refused 17 line 0\n".into()));
+}
+
+/// Request 8/12: the waits, which `report` alone prints. The verdicts do not read alpha.
+fn waiting() {
+    for (text, waits) in cases::waits() {
+        assert_eq!(wait::all(&table(&text)), waits.into_iter().map(Some).collect::<Vec<_>>(), "{text}");
+    }
+    let printed = |column: [&str; 4]| {
+        let rows = ["task verdict bound_us rounds", "1 meets 1000 1", "2 meets 1400 2", "3 meets 3300 3"];
+        rows.iter().zip(column).map(|(row, cell)| format!("{row}{cell}\n")).collect::<String>()
+    };
+    let both = [Program::Report, Program::Bench];
+    let benched = printed([""; 4]);
+    let reported = printed([" wait_us", " 2200", " 400", " 0"]);
+    assert_eq!(report::texts(cases::WAITING.as_bytes(), both), [reported, benched.clone()]);
+    let reported = printed([" wait_us", " -", " -", " -"]);
+    assert_eq!(report::texts(cases::without_alpha(cases::WAITING).as_bytes(), both), [reported, benched]);
 }

@@ -9,6 +9,7 @@ use crate::analysis::{self, Found, Verdict};
 use crate::compare::{self, run, Tally};
 use crate::programs::refused;
 use crate::random::Random;
+use crate::report::Program;
 use crate::salvage::{salvage, Salvaged};
 use crate::table::{Lock, Refusal, Table};
 use crate::{card, cards, cases, edges, generate, listing, report, salvages, strides};
@@ -554,11 +555,11 @@ pub fn salvages(program: &str) -> bool {
 
 /// No accepted table has a longer text: every pair in use, each number as long as it can be written. Of 16 totals that a run time of
 /// 9999.999 ms holds, nine at most have four digits before the point.
-fn longest() -> Table {
+pub fn longest() -> Table {
     let mut table = Table::zero();
     (table.m, table.n) = (64, 32);
     for task in &mut table.tasks {
-        (task.t, task.c, task.d) = (9_999_999, 9_999_999, 9_999_999);
+        (task.t, task.c, task.d, task.alpha) = (9_999_999, 9_999_999, 9_999_999, 64);
         for (k, lock) in task.locks.iter_mut().enumerate() {
             let time = if k < 9 { 1_000_001 } else { 100_001 };
             *lock = Lock { n: 1_000, c: time, ct: time };
@@ -573,7 +574,7 @@ pub fn longest_text(report: &str, program: &str) -> bool {
     let longest = text(&table);
     assert_eq!(listing::read(&longest).as_ref(), Ok(&table), "the longest text is not read back here");
     let written = |room: usize| (run(program, &request(4, room as u32, &words(&table))), output(&table, room, text));
-    let read = (run(report, &longest), report::text(&longest, report::REPORT).into_bytes());
+    let read = (run(report, &longest), report::text(&longest, Program::Report).into_bytes());
     for (found, expected) in [written(longest.len()), written(longest.len() - 1), read] {
         if !found.is(&expected) {
             println!("the longest text differs\nhere:\n{}\nthere:\n{found}", String::from_utf8_lossy(&expected));

@@ -97,7 +97,7 @@ fn wrong() -> Vec<Wrong> {
 
 fn told_apart(wrong: &Wrong) {
     let table = listing::read(wrong.listing.as_bytes()).expect("an accepted listing");
-    let right = report::text(wrong.listing.as_bytes(), wrong.allowance);
+    let right = report::verdicts(&table, wrong.allowance);
     let printed = report::accepted(&(wrong.program)(&table, wrong.allowance));
     let unlike: Vec<(&str, &str)> = right.lines().zip(printed.lines()).filter(|(a, b)| a != b).collect();
     assert_eq!(unlike, [(wrong.right, wrong.printed)], "{} on\n{}", wrong.name, wrong.listing);

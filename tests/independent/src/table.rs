@@ -1,10 +1,11 @@
-//! A task table, and the check of a table that is handed over directly. Written from the paper's section 'Refusals by number'.
+//! A task table, and the check of a table that is handed over directly. Written from the paper's section 'Refusals by number' and request 8/12.
 
 pub const CPUS: u64 = 64;
 pub const TASKS: usize = 32;
 pub const LOCKS: usize = 16;
 pub const TIME: u64 = 10_000_000;
 pub const COUNT: u64 = 1_000;
+pub const ALPHA: u64 = 64;
 pub const BYTES: usize = 65_536;
 
 #[derive(Clone, Copy, Default, PartialEq, Eq, Debug)]
@@ -19,6 +20,8 @@ pub struct Task {
     pub t: u64,
     pub c: u64,
     pub d: u64,
+    /// 0 for none.
+    pub alpha: u64,
     pub locks: [Lock; LOCKS],
 }
 
@@ -43,6 +46,13 @@ impl Table {
         &self.tasks[..self.n as usize]
     }
 
+    /// The same table with alpha for none of its tasks.
+    pub fn without_alpha(&self) -> Table {
+        let mut table = self.clone();
+        table.tasks.iter_mut().for_each(|task| task.alpha = 0);
+        table
+    }
+
     pub fn check(&self) -> Result<(), Refusal> {
         if self.n == 0 {
             return Err((9, 0));
@@ -53,11 +63,20 @@ impl Table {
         if !(1..=CPUS).contains(&self.m) {
             return Err((4, 0));
         }
+        let (with, without): (Vec<&Task>, Vec<&Task>) = self.used().iter().partition(|task| task.alpha > 0);
+        if !with.is_empty() && !without.is_empty() {
+            return Err((17, 0));
+        }
         for (index, task) in self.used().iter().enumerate() {
-            task.check().map_err(|number| (number, index as u32 + 1))?;
+            task.check(last_alpha(&self.tasks[..index])).map_err(|number| (number, index as u32 + 1))?;
         }
         Ok(())
     }
+}
+
+/// The alpha of the last of these tasks that has one.
+pub fn last_alpha(tasks: &[Task]) -> Option<u64> {
+    tasks.iter().rev().map(|task| task.alpha).find(|alpha| *alpha > 0)
 }
 
 impl Task {
@@ -66,11 +85,18 @@ impl Task {
         self.c - self.locks.iter().map(|lock| lock.ct).sum::<u64>()
     }
 
-    fn check(&self) -> Result<(), u32> {
+    /// The tasks before may have an alpha, which this one's is not to be above.
+    fn check(&self, before: Option<u64>) -> Result<(), u32> {
         for time in [self.t, self.c, self.d] {
             if !(1..=TIME).contains(&time) {
                 return Err(4);
             }
+        }
+        if self.alpha > ALPHA {
+            return Err(4);
+        }
+        if before.is_some_and(|before| self.alpha > before) {
+            return Err(18);
         }
         if self.c > self.d || self.d > self.t {
             return Err(5);

@@ -34,7 +34,7 @@ impl Report<'_> {
     fn printed(&self, listing: &str) -> Option<Vec<Option<u64>>> {
         let answer = compare::run(self.path, listing.as_bytes());
         let text = std::str::from_utf8(answer.output()).ok()?;
-        let rows = text.strip_prefix("task verdict bound_us rounds\n")?;
+        let rows = text.strip_prefix("task verdict bound_us rounds wait_us\n")?;
         let bounds: Vec<Option<u64>> = (1..).zip(rows.lines()).map(|(number, row)| bound(number, row)).collect::<Option<_>>()?;
         let tasks = listing.lines().filter(|line| line.starts_with("task ")).count();
         (bounds.len() == tasks).then_some(bounds)
@@ -45,8 +45,8 @@ impl Report<'_> {
 fn bound(number: u64, row: &str) -> Option<Option<u64>> {
     let words: Vec<&str> = row.split(' ').collect();
     match words[..] {
-        [task, "meets", bound, _] if task.parse() == Ok(number) => bound.parse().ok().map(Some),
-        [task, "misses", "-", _] if task.parse() == Ok(number) => Some(None),
+        [task, "meets", bound, _, _] if task.parse() == Ok(number) => bound.parse().ok().map(Some),
+        [task, "misses", "-", _, _] if task.parse() == Ok(number) => Some(None),
         _ => None,
     }
 }
