@@ -10,12 +10,14 @@ use crate::programs::Said;
 use crate::random::Random;
 use crate::report::{self, Program, BENCH, REPORT};
 use crate::table::Table;
-use crate::{cases, generate, listing, strides};
+use crate::{cases, generate, listing, strides, waits};
 
 const VALID: u64 = 1_500;
 const DAMAGED: u64 = 2_500;
 const LONG_AMONG_SHORT: u64 = 600;
 const BROKEN_OFF: u64 = 400;
+const MANY_PAIRS: u64 = 200;
+const DAMAGED_ALPHA: u64 = 700;
 
 /// What came up: how many listings or tables were compared, and each answer, of which a table gets several.
 pub struct Tally {
@@ -147,20 +149,35 @@ fn count_nearly_open(tally: &mut Tally, reported: &str) {
     }
 }
 
-/// A listing of an accepted table. Verdicts alone would not show that a field was misread here.
-fn spelled(r: &mut Random, table: Table) -> Vec<u8> {
-    let listing = generate::join(&generate::lines(r, &table));
+/// A listing of an accepted table, of which alpha is spelled by other numbers. Verdicts alone would not show that a field was misread here.
+fn spelled(r: &mut Random, alphas: &mut Random, table: Table) -> Vec<u8> {
+    let mut lines = generate::lines(r, &table);
+    generate::put_alpha(alphas, &table, &mut lines);
+    let listing = generate::join(&lines);
     assert_eq!(listing::read(&listing), Ok(table), "not read as the table it spells");
     listing
+}
+
+/// A listing with alpha, and what is said of it damaged, alone or beside something else.
+fn damaged_alpha(r: &mut Random) -> Vec<u8> {
+    let table = generate::table(r);
+    let table = generate::with_alpha(r, table);
+    let mut lines = generate::lines(r, &table);
+    generate::put_alpha(r, &table, &mut lines);
+    for _ in 0..*r.pick(&[0, 1, 1, 1, 2]) {
+        generate::damage_alpha(r, &mut lines);
+    }
+    if r.one_in(4) { generate::damage(r, &mut lines) } else { generate::join(&lines) }
 }
 
 /// The listings that are compared, in a fixed order.
 pub fn listings() -> Vec<Vec<u8>> {
     let mut all: Vec<Vec<u8>> = cases::listings();
-    let mut r = Random::new(1);
+    // alpha has numbers of its own, so that the listings without it stay the same ones
+    let (mut r, mut alphas) = (Random::new(1), Random::new(22));
     for _ in 0..VALID {
-        let table = generate::table(&mut r);
-        all.push(spelled(&mut r, table));
+        let table = generate::some_with_alpha(&mut alphas, generate::table(&mut r));
+        all.push(spelled(&mut r, &mut alphas, table));
     }
     for _ in 0..DAMAGED {
         let table = generate::table(&mut r);
@@ -174,14 +191,20 @@ pub fn listings() -> Vec<Vec<u8>> {
     // numbers of their own, so that the listings before stay the same ones
     let mut r = Random::new(4);
     for _ in 0..LONG_AMONG_SHORT {
-        let table = generate::long_among_short(&mut r);
-        all.push(spelled(&mut r, table));
+        let table = generate::some_with_alpha(&mut alphas, generate::long_among_short(&mut r));
+        all.push(spelled(&mut r, &mut alphas, table));
     }
     let mut r = Random::new(12);
     for _ in 0..BROKEN_OFF {
-        let table = generate::broken_off(&mut r);
-        all.push(spelled(&mut r, table));
+        let table = generate::some_with_alpha(&mut alphas, generate::broken_off(&mut r));
+        all.push(spelled(&mut r, &mut alphas, table));
     }
+    let mut r = Random::new(23);
+    for _ in 0..MANY_PAIRS {
+        let table = generate::many_pairs(&mut r);
+        all.push(spelled(&mut r, &mut alphas, table));
+    }
+    all.extend((0..DAMAGED_ALPHA).map(|_| damaged_alpha(&mut r)));
     all
 }
 
@@ -220,20 +243,21 @@ fn capped(tally: &mut Tally, table: &Table) -> bool {
     true
 }
 
-/// What came up in the reports: of `report`, of these where a time has more decimals, the cap counts or rounds climb alike, and of `bench`.
+/// What came up in the reports: of `report`, of these where a time has more decimals, the cap counts or rounds climb alike, in its waits, and of `bench`.
 struct Reports {
     all: Tally,
     with_decimals: Tally,
     by_cap: Tally,
     breaks: Tally,
+    waits: Tally,
     by_bench: Tally,
     nearly_open: Tally,
 }
 
 impl Reports {
     fn new() -> Reports {
-        let [all, with_decimals, by_cap, breaks, by_bench, nearly_open] = std::array::from_fn(|_| Tally::new());
-        Reports { all, with_decimals, by_cap, breaks, by_bench, nearly_open }
+        let [all, with_decimals, by_cap, breaks, waits, by_bench, nearly_open] = std::array::from_fn(|_| Tally::new());
+        Reports { all, with_decimals, by_cap, breaks, waits, by_bench, nearly_open }
     }
 
     fn count(&mut self, listing: &[u8], reported: &str, benched: &str) {
@@ -248,11 +272,20 @@ impl Reports {
         count_nearly_open(&mut self.nearly_open, reported);
     }
 
+    /// What comes up in an accepted table: what breaks rounds off that climb alike, and what the waits are made of.
+    fn count_tasks(&mut self, table: &Table) {
+        for i in 0..table.n as usize {
+            strides::breaks(table, i, REPORT).iter().for_each(|by| self.breaks.count(by.to_string()));
+            waits::kinds(table, i).iter().for_each(|kind| self.waits.count(kind.to_string()));
+        }
+    }
+
     fn print(&self) {
         self.all.print(&format!("reports: {} compared", self.all.compared));
         self.with_decimals.print(&format!("of these, {} have a time of four to six decimals", self.with_decimals.compared));
         self.by_cap.print(&format!("the {} accepted, beside the verdicts by the uncapped workload", self.by_cap.compared));
         self.breaks.print("their tasks whose rounds climb alike, by what breaks these off");
+        self.waits.print("their tasks, by what their waits are made of");
         self.by_bench.print(&format!("reports of bench: {} compared", self.by_bench.compared));
         self.nearly_open.print("their tasks that take as many rounds as it allows, or one more");
     }
@@ -262,15 +295,17 @@ impl Reports {
             let refused = refusals.iter().map(|k| format!("refused {k:>2}"));
             refused.chain(accepted.iter().map(|how| format!("accepted, {how}"))).collect::<Vec<_>>()
         };
-        let every = [1, 2, 3, 4, 5, 6, 7, 8, 9];
+        let every = [1, 2, 3, 4, 5, 6, 7, 8, 9, 17, 18];
+        let with_times = [2, 3, 4, 5, 6, 7, 8, 17, 18];
         let decided = ["all meet", "with a miss"];
         let open = ["with an open verdict", "with a miss and an open verdict"];
         let nearly = ["meets, just in time", "misses, just in time", "open, and meets a round later", "open, and misses a round later"];
         // nothing is read of a listing that gets 1, and no time of one that gets 9
         self.all.covers(&wanted(&every, &decided))
-            && self.with_decimals.covers(&wanted(&every[1..8], &decided))
+            && self.with_decimals.covers(&wanted(&with_times, &decided))
             && self.by_cap.covers(&["a bound is smaller", "a miss became a bound"].map(String::from))
             && self.breaks.covers(&[strides::CLIMB, strides::CAP, strides::BOUND, strides::DEADLINE].map(String::from))
+            && self.waits.covers(&waits::KINDS.map(String::from))
             && self.by_bench.covers(&wanted(&every, &[decided, open].concat()))
             && self.nearly_open.covers(&nearly.map(String::from))
     }
@@ -294,9 +329,7 @@ pub fn reports(report: &str, bench: &str) -> bool {
         }
         tallies.count(&listing, &reported, &benched);
         if let Ok(table) = listing::read(&listing) {
-            for i in 0..table.n as usize {
-                strides::breaks(&table, i, REPORT).iter().for_each(|by| tallies.breaks.count(by.to_string()));
-            }
+            tallies.count_tasks(&table);
             if !capped(&mut tallies.by_cap, &table) {
                 return false;
             }

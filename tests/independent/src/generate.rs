@@ -141,6 +141,16 @@ pub fn with_alpha(r: &mut Random, mut table: Table) -> Table {
     table
 }
 
+/// One table in three with alpha.
+pub fn some_with_alpha(r: &mut Random, table: Table) -> Table {
+    if r.one_in(3) { with_alpha(r, table) } else { table }
+}
+
+/// The same table with other alphas: given, taken away, or others.
+pub fn other_alpha(r: &mut Random, table: &Table) -> Table {
+    if r.one_in(3) { table.without_alpha() } else { with_alpha(r, table.clone()) }
+}
+
 /// The first two kinds in turn, from a seed of their own.
 pub fn tables(seed: u64, how_many: u64) -> impl Iterator<Item = Table> {
     let mut r = Random::new(seed);
@@ -198,7 +208,9 @@ pub fn harder(r: &mut Random, table: &Table) -> Table {
     }
     let longest = table.used().iter().map(|task| task.t).max().unwrap_or(TIME);
     while harder.n < TASKS as u64 && r.one_in(3) {
-        harder.tasks[harder.n as usize] = task(r, LOCKS, longest, 20);
+        // half of the last one's, or none
+        let alpha = harder.used().last().map_or(0, |last| last.alpha.div_ceil(2));
+        harder.tasks[harder.n as usize] = Task { alpha, ..task(r, LOCKS, longest, 20) };
         harder.n += 1;
     }
     harder
@@ -308,7 +320,7 @@ fn count(r: &mut Random, x: u64) -> String {
     format!("{x:0width$}")
 }
 
-/// A listing of a table, in some spelling, as lines without their LF. Half of them have three decimals at most.
+/// A listing of a table, but for alpha, in some spelling, as lines without their LF. Half of them have three decimals at most.
 pub fn lines(r: &mut Random, table: &Table) -> Vec<String> {
     let traced = r.one_in(2);
     let down = |r: &mut Random, us: u64| time(r, us, Round::Down, traced);
@@ -323,6 +335,16 @@ pub fn lines(r: &mut Random, table: &Table) -> Vec<String> {
         }
     }
     lines
+}
+
+/// Puts the alpha of the table's tasks into its listing, in some spelling.
+pub fn put_alpha(r: &mut Random, table: &Table, lines: &mut Vec<String>) {
+    let mut tasks = table.used().iter();
+    for line in std::mem::take(lines) {
+        let task = if line.starts_with("task ") { tasks.next() } else { None };
+        lines.push(line);
+        lines.extend(task.filter(|task| task.alpha > 0).map(|task| format!("alpha {}", count(r, task.alpha))));
+    }
 }
 
 pub fn join(lines: &[String]) -> Vec<u8> {
@@ -413,6 +435,39 @@ pub fn damage(r: &mut Random, lines: &mut Vec<String>) -> Vec<u8> {
         }
     }
     bytes
+}
+
+/// One change of what a listing says of alpha: of one line or of many, of a field or of a place.
+pub fn damage_alpha(r: &mut Random, lines: &mut Vec<String>) {
+    let (anywhere, last) = (r.next() as usize % (lines.len() + 1), lines.len() - 1);
+    let made = format!("alpha {}", some_alpha(r));
+    let own: Vec<usize> = (0..lines.len()).filter(|&at| lines[at].starts_with("alpha ")).collect();
+    if own.is_empty() {
+        return lines.insert(anywhere, made);
+    }
+    let at = *r.pick(&own);
+    match r.within(0, 14) {
+        0 | 1 => drop(lines.remove(at)),
+        2 | 3 => lines.retain(|line| !line.starts_with("alpha ") || r.one_in(2)),
+        4 => lines.insert(at, lines[at].clone()),
+        5 => lines.insert(anywhere, made),
+        // past the next line, which may be a use; or anywhere
+        6 => lines.swap(at, last.min(at + 1)),
+        7 => {
+            let line = lines.remove(at);
+            lines.insert(anywhere.min(last), line);
+        }
+        8 => lines[at] = format!("{} {}", r.pick(&["Alpha", "alphas", "alph", "task", "use", "cpus", ""]), some_alpha(r)),
+        9 => lines[at] = r.pick(&["alpha", "alpha ", "alpha 1 1", "alpha  1", "alpha 1 ", " alpha 1"]).to_string(),
+        10 => lines[at] = format!("alpha {}", odd_field(r)),
+        _ => lines[at] = made,
+    }
+}
+
+/// An alpha in some spelling, or what is nearly one.
+fn some_alpha(r: &mut Random) -> String {
+    let alpha = if r.one_in(2) { r.within(1, ALPHA) } else { *r.pick(&[0, 1, ALPHA, ALPHA + 1, 200, 256, 9_999, 10_000]) };
+    count(r, alpha)
 }
 
 /// A table of any numbers at all, most of it near the limits.

@@ -54,8 +54,9 @@ fn with_run_times(table: &Table, other: &Table) -> Table {
     mixed
 }
 
-/// As the paper has it: processors, n and the first n tasks agree.
+/// As the paper has it: processors, n and the first n tasks agree. Alpha is not looked at, since no verdict reads it.
 fn same(one: &Table, other: &Table) -> bool {
+    let [one, other] = [one, other].map(Table::without_alpha);
     (one.m, one.used()) == (other.m, other.used())
 }
 
@@ -184,9 +185,11 @@ pub fn hold() {
 }
 
 impl Kind {
-    /// The pair whose first table is this. Both are accepted, and related as the kind says.
-    fn pair(&self, r: &mut Random, first: Table) -> Pair {
-        let second = (self.made)(r, &first);
+    /// The pair whose first table is this. Both are accepted, and related as the kind says, also where the second has other alphas.
+    fn pair(&self, r: &mut Random, alphas: &mut Random, first: Table) -> Pair {
+        let made = (self.made)(r, &first);
+        assert_eq!(made.check(), Ok(()), "{}: not accepted\n{}", self.name, shown(&first, &made));
+        let second = if alphas.one_in(3) { generate::other_alpha(alphas, &made) } else { made };
         assert_eq!([first.check(), second.check()], [Ok(()); 2], "{}: not both accepted\n{}", self.name, shown(&first, &second));
         assert!((self.related)(&first, &second), "{}: not related\n{}", self.name, shown(&first, &second));
         Pair::new(first, second, self.by)
@@ -195,9 +198,10 @@ impl Kind {
     /// Holds each pair to a law, and counts what comes up.
     fn compare(&self, law: impl Fn(&Pair)) {
         let [tables, changes] = self.seeds;
-        let (mut r, mut tally) = (Random::new(changes), Tally::new());
+        let (mut r, mut alphas, mut tally) = (Random::new(changes), Random::new(25), Tally::new());
         for first in generate::tables(tables, self.pairs) {
-            let pair = self.pair(&mut r, first);
+            let first = generate::some_with_alpha(&mut alphas, first);
+            let pair = self.pair(&mut r, &mut alphas, first);
             law(&pair);
             tally.compared += 1;
             self.wanted.iter().filter(|(_, is)| is(&pair)).for_each(|(what, _)| tally.count(what.to_string()));

@@ -1,5 +1,5 @@
 //! Which tasks a bound reads, in README's words ('What is presumed'), by number: the periods and deadlines of the others may change, and so may every run
-//! time below, and neither the verdict on a task nor its rounds do.
+//! time below and every alpha, and neither the verdict on a task nor its rounds do.
 
 use crate::analysis::{iterate, By, Found, UNLIMITED};
 use crate::compare::Tally;
@@ -21,21 +21,24 @@ fn reads(table: &Table, i: usize, l: usize) -> bool {
 
 /// Stops the comparison if a verdict or its rounds change with what is not read. That they can change is seen too, with what is read.
 pub fn hold() {
-    let (mut r, mut tally) = (Random::new(21), Tally::new());
+    let (mut r, mut alphas, mut tally) = (Random::new(21), Random::new(26), Tally::new());
     for table in generate::tables(20, TABLES) {
+        let table = generate::some_with_alpha(&mut alphas, table);
+        let with_other_alpha = generate::other_alpha(&mut alphas, &table);
         tally.compared += 1;
         for i in 0..table.n as usize {
             let (read, not_read): (Vec<usize>, Vec<usize>) = (0..table.n as usize).filter(|&l| l != i).partition(|&l| reads(&table, i, l));
             let below: Vec<usize> = (i + 1..table.n as usize).collect();
             unchanged(&mut tally, "other times where not read", &table, i, &with(&mut r, &table, &not_read, other_times));
             unchanged(&mut tally, "other run times below", &table, i, &with(&mut r, &table, &below, other_run));
+            unchanged(&mut tally, "another alpha", &table, i, &with_other_alpha);
             if found(&table, i) != found(&with(&mut r, &table, &read, other_times), i) {
                 tally.count("other times where read, and another verdict or other rounds".into());
             }
         }
     }
     tally.print(&format!("what a bound reads: {} tables tried", tally.compared));
-    assert!(tally.covers(&["other times where read, and another verdict or other rounds".into()]));
+    assert!(tally.covers(&["other times where read, and another verdict or other rounds", "another alpha, and all the same"].map(String::from)));
 }
 
 fn unchanged(tally: &mut Tally, what: &str, table: &Table, i: usize, other: &Table) {

@@ -1,4 +1,5 @@
-//! Request 8/12, by number: the laws of the waits, and wrong programs, each told apart by its waits.
+//! Request 8/12, by number: the laws of the waits, and wrong programs, each told apart by its waits. And what a wait is made of, so that the comparison can
+//! say which kinds it has tried.
 
 use std::collections::BTreeSet;
 
@@ -86,6 +87,35 @@ fn other_figures(r: &mut Random, table: &Table) -> Table {
     assert_eq!(other.check(), Ok(()), "{}", listing::write(&other));
     other
 }
+
+const NO_ALPHA: &str = "no alpha";
+const NONE: &str = "a wait of 0";
+const SOME: &str = "a wait above 0";
+const LONG: &str = "a wait past 32 bits";
+const FEWER: &str = "fewer lower values count than there are";
+const EQUAL: &str = "of equal lower values some count";
+const AS_MANY: &str = "as many lower values count as there are";
+const ALL: &str = "fewer lower values than alpha";
+
+/// What comes up in the wait of the task at `i` (from 0) of a checked table.
+pub fn kinds(table: &Table, i: usize) -> BTreeSet<&'static str> {
+    let Some(wait) = wait::wait(table, i) else { return BTreeSet::from([NO_ALPHA]) };
+    let mut kinds = BTreeSet::from([if wait == 0 { NONE } else { SOME }]);
+    kinds.extend((wait > u32::MAX as u64).then_some(LONG));
+    let alpha = table.tasks[i].alpha as usize;
+    for k in in_use(table, i) {
+        let mut values = wait::below(table, i, k);
+        values.sort_by(|a, b| b.cmp(a));
+        let count = values.len();
+        kinds.extend((count > alpha).then_some(FEWER));
+        kinds.extend((count > alpha && values[alpha - 1] == values[alpha]).then_some(EQUAL));
+        kinds.extend((count == alpha).then_some(AS_MANY));
+        kinds.extend((0 < count && count < alpha).then_some(ALL));
+    }
+    kinds
+}
+
+pub const KINDS: [&str; 8] = [NO_ALPHA, NONE, SOME, LONG, FEWER, EQUAL, AS_MANY, ALL];
 
 /// A pair in use: its task and its resource, both from 0, and its figures.
 #[derive(Clone, Copy)]
