@@ -497,3 +497,15 @@ pub fn raw_table(r: &mut Random) -> Table {
     }
     table
 }
+
+/// The same with alpha, mostly with a fault in it: none for some task, one above the limit or above the one before.
+pub fn raw_alpha(r: &mut Random) -> Table {
+    let raw = raw_table(r);
+    let mut table = with_alpha(r, raw);
+    for _ in 0..*r.pick(&[0, 1, 1, 1, 2, 3]) {
+        let slot = r.next() as usize % (table.n as usize).clamp(1, TASKS);
+        let own = table.tasks[slot].alpha;
+        table.tasks[slot].alpha = *r.pick(&[0, 0, own + 1, own + 1, 1, ALPHA, ALPHA + 1, 200, u32::MAX as u64]);
+    }
+    table
+}

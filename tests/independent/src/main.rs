@@ -14,7 +14,7 @@
 //!     independent falls                     the smallest pair of request 7/12: a listing, an empty line, the listing with a lock held longer inside
 //!                                           the same run time, an empty line, and the task whose bound falls, with both bounds
 //!     independent compare REPORT BENCH PROBE ARCHIVE UNARCHIVE SALVAGE
-//!                                           run them on many listings, tables, times and cards and compare; exit 1 on a difference
+//!                                           run them on many listings, tables, times, counts and cards and compare; exit 1 on a difference
 //!     independent simulate REPORT           simulate many schedules of systems in which all tasks meet by what REPORT prints; exit 1 on a job that is
 //!                                           later than its bound, 2 on bad input
 //!     independent closeness REPORT SYSTEMS SEED PAGE PICTURE
@@ -92,6 +92,7 @@ fn main() -> ExitCode {
                 && probe::compare(probe)
                 && probe::longest_text(report, probe)
                 && probe::times(probe)
+                && probe::counts(probe)
                 && probe::archives(probe)
                 && probe::salvages(probe)
                 && programs::compare(archive, unarchive, salvage);

@@ -1,6 +1,6 @@
 //! Tables handed over directly, by way of the program `probe`: the check, one task's bound, rows and outputs of every length, and allowances of
-//! about as many rounds as are taken. And listings and cards: which table each is read as. And times: what is written of each, into outputs of
-//! every length. And damaged cards: what is saved of each, with lists and outputs of many lengths.
+//! about as many rounds as are taken; one task's wait and those of all. And listings and cards: which table each is read as. And times and counts: what is
+//! written of each, into outputs of every length. And damaged cards: what is saved of each, with lists and outputs of many lengths.
 //! docs/PROBE.md describes its input.
 
 use std::collections::BTreeSet;
@@ -11,15 +11,17 @@ use crate::programs::refused;
 use crate::random::Random;
 use crate::report::Program;
 use crate::salvage::{salvage, Salvaged};
-use crate::table::{Lock, Refusal, Table};
-use crate::{card, cards, cases, edges, generate, listing, report, salvages, strides};
+use crate::table::{Lock, Refusal, Table, TASKS};
+use crate::{card, cards, cases, edges, generate, listing, report, salvages, strides, wait};
 
 const TABLES: u64 = 600;
 const LONG_AMONG_SHORT: u64 = 100;
 const BROKEN_OFF: u64 = 80;
+const RAW_ALPHA: u64 = 150;
+const MANY_PAIRS: u64 = 40;
 const ROWS: usize = 40;
 const OUTPUT: usize = 20_000;
-/// What a request has after its first two words: a table, a time, or a listing or a card of as many bytes at most.
+/// What a request has after its first two words: a table, a time, a count, or a listing or a card of as many bytes at most.
 const ROOM: usize = 34_000;
 /// The most bytes of a damaged card: two words more come before it.
 const DAMAGED: usize = ROOM - 8;
@@ -29,7 +31,7 @@ const SAVED: usize = 34_000;
 /// Allowances that are enough for every task, or that one of fewer bytes would read as a small one.
 const LARGE: [u32; 4] = [1 << 16, 10_000_000, 1 << 31, u32::MAX];
 
-/// What a table, a time, a listing or a card does not fill is not to be looked at.
+/// What a table, a time, a count, a listing or a card does not fill is not to be looked at.
 fn request(entry: u32, argument: u32, bytes: &[u8]) -> Vec<u8> {
     let mut request = [entry, argument].map(u32::to_be_bytes).concat();
     request.extend(bytes);
@@ -40,7 +42,7 @@ fn request(entry: u32, argument: u32, bytes: &[u8]) -> Vec<u8> {
 fn words(table: &Table) -> Vec<u8> {
     let mut words = vec![table.m as u32, (table.n >> 32) as u32, table.n as u32];
     for task in &table.tasks {
-        words.extend([task.t as u32, task.c as u32, task.d as u32]);
+        words.extend([task.t, task.c, task.d, task.alpha].map(|figure| figure as u32));
         for lock in &task.locks {
             words.extend([lock.n as u32, lock.c as u32, lock.ct as u32]);
         }
@@ -117,6 +119,25 @@ impl Handed {
         answer + &lines.concat()
     }
 
+    fn wait(&self, task: u32) -> String {
+        match (&self.found, self.task(task)) {
+            (Err(refusal), _) => refused(*refusal),
+            (_, None) => refused((10, 0)),
+            _ => wait::wait(&self.table, task as usize - 1).map_or("no alpha\n".into(), |us| format!("wait {us}\n")),
+        }
+    }
+
+    /// The answer, whether there is alpha, and what stands in each of the slots.
+    fn waits(&self) -> String {
+        let (answer, waits) = match &self.found {
+            Err(refusal) => (refused(*refusal), vec![]),
+            Ok(_) => ("fine\n".into(), wait::all(&self.table)),
+        };
+        let alpha = if waits.iter().any(Option::is_some) { "alpha\n" } else { "no alpha\n" };
+        let slots = waits.into_iter().map(|wait| wait.unwrap_or(0)).chain([0; TASKS]).take(TASKS);
+        answer + alpha + &slots.map(|wait| format!("{wait}\n")).collect::<String>()
+    }
+
     /// How near the allowance is to what a task takes; or that it is 0 too where another refusal comes first.
     fn near(&self, task: u32, allowance: u32) -> String {
         match (self.task(task), allowance as u64) {
@@ -148,7 +169,7 @@ impl Handed {
 pub fn hold() {
     let handed = |text: &str| Handed::new(listing::read(text.as_bytes()).expect("an accepted listing"));
     let (a, late) = (handed(cases::CASE_A), handed(&cases::CASE_A.replace("30 6 30", "30 6 14.499")));
-    assert_eq!(request(2, 3, &with_allowance(&a.table, Some(5)))[4 * 1637..4 * 1638], [0, 0, 0, 5]);
+    assert_eq!(request(2, 3, &with_allowance(&a.table, Some(5)))[4 * 1669..4 * 1670], [0, 0, 0, 5]);
     assert_eq!([1, 2, 3].map(|task| a.bound(task, 6)), ["meets 3250 rounds 2\n", "meets 4000 rounds 1\n", "meets 14500 rounds 6\n"]);
     assert_eq!([&a, &late].map(|handed| handed.bound(3, 5)), ["open rounds 5\n", "misses rounds 5\n"]);
     assert_eq!([(3, 0), (0, 0), (4, 0), (4, 5)].map(|(task, allowance)| a.bound(task, allowance)), [16, 10, 10, 10].map(|k| refused((k, 0))));
@@ -159,6 +180,30 @@ pub fn hold() {
     let none = Handed::new(Table::zero());
     assert_eq!(none.bound(0, 0), refused((9, 0)));
     assert!(none.row(0, 0).starts_with(&refused((9, 0))));
+    hold_waits();
+}
+
+/// Request 8/12: where alpha stands, and what is printed of waits.
+fn hold_waits() {
+    let handed = |text: &str| Handed::new(listing::read(text.as_bytes()).expect("an accepted listing"));
+    let (waiting, without) = (handed(cases::WAITING), handed(&cases::without_alpha(cases::WAITING)));
+    let mixed = |alphas: [u64; 3]| {
+        let mut table = waiting.table.clone();
+        table.tasks.iter_mut().zip(alphas).for_each(|(task, alpha)| task.alpha = alpha);
+        Handed::new(table)
+    };
+    let three = mixed([5, 4, 3]);
+    // T, C, D, alpha, and then the first lock: of the tasks one after another
+    let word = |at: usize| request(1, 0, &words(&three.table))[4 * at + 3];
+    assert_eq!([8, 9, 5 + 52 + 3, 5 + 52 + 3 + 4, 5 + 2 * 52 + 3].map(word), [5, 2, 4, 1, 3]);
+    assert_eq!([1, 2, 3].map(|task| waiting.wait(task)), ["wait 2200\n", "wait 400\n", "wait 0\n"]);
+    assert_eq!([0, 4, u32::MAX].map(|task| waiting.wait(task)), [refused((10, 0)), refused((10, 0)), refused((10, 0))]);
+    assert_eq!([1, 4].map(|task| without.wait(task)), ["no alpha\n".into(), refused((10, 0))]);
+    assert_eq!([mixed([2, 0, 2]).wait(0), mixed([2, 3, 3]).wait(9)], [refused((17, 0)), refused((18, 2))]);
+    let zeros = "0\n".repeat(32);
+    assert_eq!(waiting.waits(), format!("fine\nalpha\n2200\n400\n{}", "0\n".repeat(30)));
+    assert_eq!(without.waits(), format!("fine\nno alpha\n{zeros}"));
+    assert_eq!(mixed([2, 0, 2]).waits(), format!("refused 17 place 0\nno alpha\n{zeros}"));
 }
 
 /// What is printed of a writer: its answer, or why it has none to give, and then the whole output, of which the first `room` bytes were lent.
@@ -258,6 +303,24 @@ impl Call {
     }
 }
 
+/// The waits as they are asked for: one task's, another's, and all.
+fn waits(handed: &Handed, tasks: [u32; 2]) -> Vec<Call> {
+    let of_task = |task: u32| {
+        let expected = handed.wait(task);
+        let outcome = match expected.as_str() {
+            "wait 0\n" => "wait: 0".into(),
+            "no alpha\n" => "wait: no alpha".into(),
+            _ => outcome("wait", expected.as_bytes()),
+        };
+        Call { outcome, ..Call::new("wait", 10, task, expected.into_bytes()) }
+    };
+    let mut calls: Vec<Call> = tasks.map(of_task).into();
+    let all = Call::new("wait_all", 11, 0, handed.waits().into_bytes());
+    let alpha = if handed.found.is_err() { "" } else if handed.table.tasks[0].alpha > 0 { ", alpha" } else { ", no alpha" };
+    calls.push(Call { outcome: all.outcome + alpha, ..all });
+    calls
+}
+
 /// Allowances to ask with: 0, one about as many rounds as some task takes, and one that is far off. Where there is no such task, any one.
 fn allowances(r: &mut Random, task: Option<Found>) -> Vec<u32> {
     let large = *r.pick(&LARGE);
@@ -290,6 +353,12 @@ fn some_of_each() -> impl Iterator<Item = (Table, Vec<Call>)> {
     tables.extend((0..TABLES).map(|_| generate::raw_table(&mut r)));
     let mut for_the_cap = Random::new(6);
     tables.extend((0..LONG_AMONG_SHORT).map(|_| generate::long_among_short(&mut for_the_cap)));
+    let mut for_alpha = Random::new(24);
+    let mut tables: Vec<Table> = tables.into_iter().map(|table| generate::some_with_alpha(&mut for_alpha, table)).collect();
+    tables.extend(edges::alphas().into_iter().map(|(_, table, _)| table));
+    tables.extend((0..RAW_ALPHA).map(|_| generate::raw_alpha(&mut for_alpha)));
+    tables.extend((0..MANY_PAIRS).map(|_| generate::many_pairs(&mut for_alpha)));
+    tables.extend(cases::waits().iter().filter_map(|(text, _)| listing::read(text.as_bytes()).ok()));
     let mut for_rounds = Random::new(10);
     let asked = move |table: Table| {
         let n = table.n.min(32) as u32;
@@ -306,6 +375,10 @@ fn some_of_each() -> impl Iterator<Item = (Table, Vec<Call>)> {
         calls.extend(allowances(&mut for_rounds, handed.task(task)).into_iter().map(|allowance| Call::bound(&handed, task, allowance)));
         let other = handed.task(for_rounds.within(1, n.max(1) as u64) as u32);
         calls.extend(allowances(&mut for_rounds, other).into_iter().map(|allowance| Call::analyse(&handed, room, allowance)));
+        if handed.table.tasks.iter().any(|task| task.alpha > 0) || for_alpha.one_in(3) {
+            let another = for_alpha.within(1, n.max(1) as u64) as u32;
+            calls.extend(waits(&handed, [task, another]));
+        }
         (handed.table, calls)
     };
     tables.into_iter().map(asked)
@@ -351,8 +424,8 @@ pub fn compare(program: &str) -> bool {
 
 /// Each entry point checks its table by itself. Of an allowance of 0 every refusal that comes before it, and the one that comes after.
 fn wanted() -> Vec<String> {
-    let refusals = |name: &'static str| [4, 5, 7, 8, 9].map(|k| format!("{name}: refused {k:>2}"));
-    let mut all: Vec<String> = ["check", "write", "card write"].into_iter().flat_map(refusals).collect();
+    let refusals = |name: &'static str| [4, 5, 7, 8, 9, 17, 18].map(|k| format!("{name}: refused {k:>2}"));
+    let mut all: Vec<String> = ["check", "write", "card write", "wait", "wait_all"].into_iter().flat_map(refusals).collect();
     for refused in ["bound", "analyse"].into_iter().flat_map(refusals).chain(["bound: refused 10".into()]) {
         all.push(format!("{refused}, and the allowance is 0"));
         all.push(refused);
@@ -363,6 +436,8 @@ fn wanted() -> Vec<String> {
     all.push(format!("bound: {}", strides::ALLOWANCE));
     all.extend(["refused 16, and the row is short", "refused 16", "refused 11"].map(|answer| format!("analyse: {answer}")));
     all.extend(["", ", some open", ", all open"].map(|how| format!("analyse: fine{how}")));
+    all.extend(["wait", "0", "no alpha", "refused 10"].map(|answer| format!("wait: {answer}")));
+    all.extend(["alpha", "no alpha"].map(|alpha| format!("wait_all: fine, {alpha}")));
     all
 }
 
@@ -382,7 +457,7 @@ pub fn readings(program: &str) -> bool {
     }
     tally.print(&format!("readings: {} compared", tally.compared));
     // 1 needs a longer listing than fits in a request
-    let mut wanted: Vec<String> = (2..=9).map(|k| format!("read: refused {k:>2}")).collect();
+    let mut wanted: Vec<String> = (2..=9).chain([17, 18]).map(|k| format!("read: refused {k:>2}")).collect();
     wanted.push("read: fine".into());
     tally.covers(&wanted)
 }
@@ -395,20 +470,42 @@ pub fn times(program: &str) -> bool {
     let all = wholes.iter().flat_map(|whole| fractions.map(|fraction| whole * 1_000 + fraction)).chain([u32::MAX]);
     let mut tally = Tally::new();
     for us in all {
-        let text = listing::time_text(us as u64).into_bytes();
-        for room in (0..=text.len() + 1).chain([OUTPUT]) {
-            let expected = filled(Ok(text.clone()), room, "short\n".into());
-            let found = run(program, &request(8, room as u32, &us.to_be_bytes()));
-            if !found.is(&expected) {
-                println!("put_time of {us} with an output of {room} bytes differs\nhere:\n{}\n{program}:\n{found}", String::from_utf8_lossy(&expected));
-                return false;
-            }
-            tally.count(outcome("put_time", &expected));
+        if !put(&mut tally, program, ("put_time", 8), &us.to_be_bytes(), listing::time_text(us as u64)) {
+            return false;
         }
-        tally.compared += 1;
     }
     tally.print(&format!("times: {} compared, {} calls", tally.compared, tally.answers()));
     tally.covers(&["put_time: wrote".into(), "put_time: short".into()])
+}
+
+/// A count, in the same way: the powers of ten and of two, where its text or its words get longer, and what is next to them.
+pub fn counts(program: &str) -> bool {
+    let powers = (0..=19).map(|e| 10u64.pow(e)).chain([8, 16, 31, 32, 33, 63].map(|e| 1 << e));
+    let mut all: BTreeSet<u64> = powers.flat_map(|x| [x - 1, x, x + 1]).collect();
+    all.extend([64, 2_200, 1_234_567_890, 4_650_000_000_000, 9_876_543_210_987_654_321, u64::MAX - 1, u64::MAX]);
+    let mut tally = Tally::new();
+    for x in all {
+        if !put(&mut tally, program, ("put_count", 12), &x.to_be_bytes(), x.to_string()) {
+            return false;
+        }
+    }
+    tally.print(&format!("counts: {} compared, {} calls", tally.compared, tally.answers()));
+    tally.covers(&["put_count: wrote".into(), "put_count: short".into()])
+}
+
+/// Whether an entry point puts this text of a number into every output of a length up to one byte more than that, and into a long one.
+fn put(tally: &mut Tally, program: &str, (name, entry): (&str, u32), number: &[u8], text: String) -> bool {
+    for room in (0..=text.len() + 1).chain([OUTPUT]) {
+        let expected = filled(Ok(text.clone().into_bytes()), room, "short\n".into());
+        let found = run(program, &request(entry, room as u32, number));
+        if !found.is(&expected) {
+            println!("{name} of {text} with an output of {room} bytes differs\nhere:\n{}\n{program}:\n{found}", String::from_utf8_lossy(&expected));
+            return false;
+        }
+        tally.count(outcome(name, &expected));
+    }
+    tally.compared += 1;
+    true
 }
 
 /// A refusal of a card with what its place was. A reader that looks at the first block alone gets none right at the second.
