@@ -233,10 +233,12 @@ fn generated() -> Vec<Card> {
 }
 
 fn accepted(r: &mut Random) -> Vec<Card> {
+    let mut alphas = Random::new(29);
     let mut all = Vec::new();
     for _ in 0..ACCEPTED {
         let table = generate::table(r);
         let card = card::write(&table);
+        assert_eq!(card::write(&generate::with_alpha(&mut alphas, table.clone())), card, "alpha is not dropped");
         assert_eq!(card::read(&card), Ok(table), "not read as the table that it was written of");
         all.push(("an accepted table", card));
     }

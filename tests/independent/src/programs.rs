@@ -71,9 +71,22 @@ fn archives(program: &str) -> bool {
         }
         tally.compared += 1;
         tally.count(outcome(&said));
+        if let Some(without) = without_alpha(listing) {
+            assert_eq!(archive(&without), said, "alpha is not dropped:\n{}", String::from_utf8_lossy(listing));
+            tally.count(DROPPED.into());
+        }
     }
     tally.print(&format!("listings archived: {} compared", tally.compared));
-    tally.covers(&wanted(&[1, 2, 3, 4, 5, 6, 7, 8, 9]))
+    tally.covers(&wanted(&[1, 2, 3, 4, 5, 6, 7, 8, 9, 17, 18])) && tally.covers(&[DROPPED.into()])
+}
+
+const DROPPED: &str = "accepted, and the same as without alpha";
+
+/// An accepted listing with alpha, without its lines of alpha.
+fn without_alpha(listing: &[u8]) -> Option<Vec<u8>> {
+    let table = listing::read(listing).ok()?;
+    let text = std::str::from_utf8(listing).ok()?;
+    (table != table.without_alpha()).then(|| cases::without_alpha(text).into_bytes())
 }
 
 fn unarchives(program: &str) -> bool {
@@ -119,16 +132,17 @@ fn shown(said: &Said) -> String {
     }
 }
 
-/// Every task and every pair: what one program wrote goes to the other, and the listing comes back.
+/// Every task and every pair: what one program wrote goes to the other, and the listing comes back, without alpha if it had any.
 fn there_and_back(archive: &str, unarchive: &str) -> bool {
     let text = listing::write(&cards::full());
-    let there = run(archive, text.as_bytes());
-    let back = run(unarchive, there.output());
-    let same = there.is(card::write(&cards::full())) && back.is(&text);
-    if same {
-        println!("32 tasks with 16 locks each, {} bytes, are archived and come back", there.output().len());
-    } else {
-        println!("32 tasks with 16 locks each do not come back\n{there}\n{back}");
+    for listing in [text.clone(), cases::with_alpha(&text, 64)] {
+        let there = run(archive, listing.as_bytes());
+        let back = run(unarchive, there.output());
+        if !there.is(card::write(&cards::full())) || !back.is(&text) {
+            println!("32 tasks with 16 locks each do not come back\n{there}\n{back}");
+            return false;
+        }
     }
-    same
+    println!("32 tasks with 16 locks each are archived and come back, and with alpha they come back without");
+    true
 }
