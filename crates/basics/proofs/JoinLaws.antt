@@ -1,14 +1,17 @@
 -- The laws of the parts joined, over the indices below n.
 -- Assumes nothing.
 use Prim.Native.Nat.{ℕ, zero, suc, _+_, _*_, _≤_, _<_}
-use mathlib.Core.Path.{_≡_, refl, _∙_}
+use mathlib.Core.Path.{_≡_, refl, sym, ap, _∙_}
 use mathlib.Core.List.{List, [], _++_, append-assoc, append-nil}
 use native.Mathlib.Nat.{le-refl, not-suc-le-zero, mul-le-mul-left}
 use native.Mathlib.Decide.{ℕ-discrete}
 use native.Mathlib.Numerals.{add-one}
 use native.Mathlib.Omega.{arith}
+use borrow.Author.Tests.{le-leb, lt-leb, lt-ltb, le-ltb}
+use lib.Dec.{leb, ltb, leb·zero}
 use lib.ListN.{length, getD, length-append, List·getD-append}
 use lib.Seq.{getD-append-add}
+use Rattle.basics.specs.Choice.{pick}
 use Rattle.basics.specs.Over.{sumTo, joinTo}
 use Rattle.basics.proofs.SumLaws.{sum-more, sum-rises, sum-bound}
 
@@ -71,3 +74,31 @@ module _ {A : Type 0} where
       go : (m : ℕ) → ((k : ℕ) (l : List A) → k < m → P (suc k) l → P k (f k ++ l)) → (l : List A) → P m l → P 0 (joinTo m f ++ l)
       go zero step l p = p
       go (suc m) step l p = rw append-assoc (go m (λ k l h. step k l (omega arith)) (f m ++ l) (step m l (le-refl (suc m)) p))
+
+  -- a function that goes part by part
+  pub join-through : {B : Type 0} (h : List A → List B) → h [] ≡ [] → ((a b : List A) → h (a ++ b) ≡ h a ++ h b) → (n : ℕ) (f : ℕ → List A)
+      → h (joinTo n f) ≡ joinTo n (λ k. h (f k))
+  unfolding joinTo
+  join-through h nil parts zero f = nil
+  join-through {B} h nil parts (suc n) f = parts (joinTo n f) (f n) ∙ ap (λ (l : List B). l ++ h (f n)) (join-through h nil parts n f)
+
+  -- ---- the parts from i on
+
+  pub join-whole : (n : ℕ) (f : ℕ → List A) → joinTo n (λ k. pick (leb 0 k) (f k) []) ≡ joinTo n f
+  join-whole n f = join-eq n _ _ (λ k h. rw (leb·zero k))
+
+  pub join-past : (n i : ℕ) (f : ℕ → List A) → n ≤ i → joinTo n (λ k. pick (leb i k) (f k) []) ≡ []
+  unfolding joinTo
+  join-past zero i f h = refl
+  join-past (suc n) i f h = rw (join-past n i f (omega arith), lt-leb i n h)
+
+  pub join-rest : (n i : ℕ) (f : ℕ → List A) → i < n → joinTo n (λ k. pick (leb i k) (f k) []) ≡ f i ++ joinTo n (λ k. pick (ltb i k) (f k) [])
+  unfolding joinTo
+  join-rest zero i f h = absurd (not-suc-le-zero h)
+  join-rest (suc n) i f h = go (ℕ-discrete i n) (λ l. join-rest n i f l)
+    where
+      go : Dec (i ≡ n) → (i < n → joinTo n (λ k. pick (leb i k) (f k) []) ≡ f i ++ joinTo n (λ k. pick (ltb i k) (f k) []))
+          → joinTo n (λ k. pick (leb i k) (f k) []) ++ pick (leb i n) (f n) [] ≡ f i ++ (joinTo n (λ k. pick (ltb i k) (f k) []) ++ pick (ltb i n) (f n) [])
+      go (yes e) ih =
+          rw (e, join-past n n f (le-refl n), le-leb n n (le-refl n), join-past n (suc n) f (omega arith), le-ltb n n (le-refl n)) (sym (append-nil (f n)))
+      go (no e) ih = rw (ih (omega arith), le-leb i n (omega arith), lt-ltb i n (omega arith)) (append-assoc (f i) _ (f n))

@@ -2,15 +2,16 @@
 -- Assumes nothing.
 use Prim.Native.Nat.{ℕ, zero, suc, _+_, _-_, _≤_, _<_}
 use mathlib.Core.Path.{_≡_, refl, sym, ap, subst, _∙_}
+use mathlib.Core.Bool.{Bool, true, false}
 use mathlib.Core.List.{List, [], _∷_, _++_}
 use native.Mathlib.Omega.{arith}
 use native.Mathlib.Numerals.{add-one}
-use native.Mathlib.Nat.{not-suc-le-zero}
+use native.Mathlib.Nat.{le-refl, not-suc-le-zero}
 use native.Mathlib.Decide.{ℕ-discrete, decLt}
-use borrow.Author.Tests.{lt-ltb, le-ltb}
-use lib.ListN.{length, getD, set, drop, replicate, length-append, length-drop, length-replicate, getD-replicate, List·getD-append}
-use lib.Dec.{ltb}
-use lib.Seq.{getD-at, getD-append-add, getD-drop, ext-getD}
+use borrow.Author.Tests.{leb-true, lt-ltb, le-ltb, le-leb, lt-leb}
+use lib.ListN.{length, getD, set, drop, replicate, length-append, length-drop, length-set, length-replicate, getD-replicate, List·getD-append}
+use lib.Dec.{leb, ltb, leb·zero}
+use lib.Seq.{getD-at, getD-append-add, getD-drop, getD-set-same, getD-set-other, ext-getD}
 use Rattle.basics.specs.Choice.{pick}
 use Rattle.basics.specs.Over.{joinTo, rowTo}
 use Rattle.basics.proofs.JoinLaws.{join-eq}
@@ -85,3 +86,26 @@ module _ {A : Type 0} where
           ∙ getD-append-add (rowTo n g) (drop n (replicate m e)) (k - n) e
           ∙ getD-drop n (replicate m e) (k - n) e
           ∙ rw (j, le-ltb k n (omega arith)) (getD-replicate m k e e h)
+
+  -- ---- a row of m whose places from i on hold g i, .., g (m − 1), and e before them: stored one by one from the last
+
+  pub back-none : (g : ℕ → A) (e : A) (m i : ℕ) → ((k : ℕ) → i ≤ k → g k ≡ e) → replicate m e ≡ rowTo m (λ k. pick (leb i k) (g k) e)
+  back-none g e m i past = row-is m _ e _ (length-replicate m e) (λ k h. getD-replicate m k e e h ∙ sym (go k (leb i k) refl))
+    where
+      go : (k : ℕ) (b : Bool) → leb i k ≡ b → pick b (g k) e ≡ e
+      go k true t = past k (leb-true i k t)
+      go k false t = refl
+
+  pub back-more : (g : ℕ → A) (e : A) (m i : ℕ) → i < m → set (rowTo m (λ k. pick (ltb i k) (g k) e)) i (g i) ≡ rowTo m (λ k. pick (leb i k) (g k) e)
+  back-more g e m i l = row-is m _ e _ (length-set (rowTo m row) i (g i) ∙ row-length m row) (λ k h. go k h (ℕ-discrete k i) (decLt i k))
+    where
+      row : ℕ → A
+      row k = pick (ltb i k) (g k) e
+
+      go : (k : ℕ) → k < m → Dec (k ≡ i) → Dec (i < k) → getD (set (rowTo m row) i (g i)) k e ≡ pick (leb i k) (g k) e
+      go k h (yes q) d = rw (q, getD-set-same (rowTo m row) i (g i) e (omega (arith, row-length m row)), le-leb i i (le-refl i))
+      go k h (no q) (yes d) = getD-set-other (rowTo m row) i k (g i) e q ∙ row-at m k row e h ∙ rw (lt-ltb i k d, le-leb i k (omega arith))
+      go k h (no q) (no d) = getD-set-other (rowTo m row) i k (g i) e q ∙ row-at m k row e h ∙ rw (le-ltb i k (omega arith), lt-leb i k (omega arith))
+
+  pub back-all : (g : ℕ → A) (e : A) (m : ℕ) → rowTo m (λ k. pick (leb 0 k) (g k) e) ≡ rowTo m g
+  back-all g e m = row-eq m _ g (λ k h. rw (leb·zero k))
