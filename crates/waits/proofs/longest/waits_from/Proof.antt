@@ -1,0 +1,76 @@
+-- `waits::longest::waits_from` meets its contract. The loop's invariant: the requests of the tasks from slot i on are kept, and the waits of these tasks stored. Assumes nothing.
+use borrow.Author.Needs.{needs}
+use mathlib.Core.Path.{_≡_, refl, _∙_}
+use native.Mathlib.Nat.{le-refl}
+use native.Mathlib.Omega.{arith}
+use Prim.Native.Nat.{_-_, _≤_}
+use Rattle.table.specs.Limits.{maxTasks}
+use Rattle.table.specs.Accepted.{Accepted}
+use Rattle.table.specs.At.{taskAt}
+use Rattle.table.proofs.Acceptance.{fine-accepted}
+use Rattle.waits.specs.Kept.{InLimits, KeptRow}
+use Rattle.waits.proofs.KeptLaws.{kept-row}
+use Rattle.waits.proofs.WaitLaws.{KeptFrom, from-none, from-more, in-limits, waitsFrom, waits-none, waits-more, waits-all}
+use Rattle.waits.proofs.longest.waits_from.Statement.{statement}
+use Rattle.waits.proofs.longest.waits_from.Tie as tie
+
+abbrev Inv-loop : tie.InvT-loop
+Inv-loop t alphas waits₀ kept₀ n₀ i₀ waits kept n i = (i ≤ t .n) × (t .n ≤ maxTasks) × KeptFrom t i n kept × (waits ≡ waitsFrom t alphas i)
+
+abbrev μ-loop : tie.MeasureT-loop
+μ-loop t alphas waits₀ kept₀ n₀ i₀ waits kept n i = i
+
+accepted : (b : tie.Start Inv-loop μ-loop) → Accepted (b .args .t1)
+accepted b = fine-accepted (b .args .t1) (b .pre .0)
+
+-- what both calls ask for
+asked : (c : tie.In-loop Inv-loop μ-loop)
+    → let l = c .before in
+    KeptRow (l .loop .kept) (l .loop .n) × InLimits (taskAt (l .before .args .t1) (l .loop .i - 1))
+asked c =
+    let l = c .before in
+    (kept-row tt (l .loop .inv .2), in-limits (l .before .args .t1) (accepted (l .before)) (l .loop .i - 1) (omega arith))
+
+loop-holds : tie.Need-loop-holds Inv-loop μ-loop
+loop-holds c =
+    let t = c .args .t1 in
+    (le-refl (t .n), accepted c .tasks-most, from-none t _ refl, waits-none t (c .args .t2))
+
+loop-again : tie.Need-loop-again Inv-loop μ-loop
+loop-again c =
+    let w = c .before .before in
+    let l = w .before .before .before .before in
+    let b = l .before in
+    let s = l .loop in
+    let t = b .args .t1 in
+    let more = waits-more t (accepted b) (b .args .t2) (b .pre .1) (s .i) (s .n) (s .kept) (omega arith) (omega arith) (s .inv .2) in (
+      omega arith,
+      s .inv .1,
+      from-more t (s .i) (s .n) (c .keep-task .result) (s .kept) (c .keep-task .last .0) (omega arith) (omega arith) (s .inv .2) (c .keep-task .ensures),
+      more (w .wait-of .result) (w .wait-of .ensures) (s .waits) (s .inv .3),
+    )
+
+returns : tie.Need-returns Inv-loop μ-loop
+returns c =
+    let l = c .before in
+    l .loop .inv .3 ∙ waits-all (l .before .args .t1) (l .before .args .t2) (l .loop .i) (omega arith)
+
+pub waits-from-spec : {M : Type 1} → statement M
+waits-from-spec =
+    tie.close
+    (tie.spec
+    Inv-loop
+    μ-loop
+    loop-holds
+    (λ c. search needs)
+    (λ c. search needs)
+    (λ c. search needs)
+    (λ c. search needs)
+    (λ c. search needs)
+    (λ c κs. asked (c .before .before))
+    (λ c. search needs)
+    (λ c. search needs)
+    (λ c κs. asked (c .before .before .before .before))
+    (λ c. search needs)
+    loop-again
+    returns)
