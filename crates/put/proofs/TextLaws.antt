@@ -16,7 +16,7 @@ use Rattle.put.specs.Text.{digitsOf, width, countText}
 
 -- ---- how wide a number is
 
--- n is below 10 ^ (k + 1)
+-- whether n is below 10 ^ (k + 1)
 abbrev pub tens : ℕ → ℕ → Bool
 tens n k = ltb n (10 ^ suc k)
 
@@ -61,7 +61,7 @@ count-length n = digits-length (width n) n
 pub count-most : (n : ℕ) → length (countText n) ≤ 20
 count-most n = omega (arith, count-length n, width-most n)
 
--- of 32 bits
+-- a number of 32 bits
 pub count-small : (n : ℕ) → n < 4_294_967_296 → length (countText n) ≤ 10
 count-small n h = omega (arith, count-length n, width-few n 10 (lit≤ tt) (omega arith))
 

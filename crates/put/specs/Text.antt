@@ -14,7 +14,7 @@ abbrev pub digitsOf : ℕ → ℕ → List ℕ
 digitsOf zero n = []
 digitsOf (suc k) n = digitsOf k (n / 10) ++ ((48 + n % 10) ∷ [])
 
--- how many digits n has: the least k from 1 on with n below 10 ^ k; no number here has more than twenty
+-- how many digits n has, 0 having one: the least k from 1 on with n below 10 ^ k; no number here has more than twenty
 unfoldable pub width : ℕ → ℕ
 width n = suc (firstTo 19 (λ k. ltb n (10 ^ suc k)))
 

@@ -30,7 +30,8 @@ struct Digits {
     count: usize,
 }
 
-// How many digits n has.
+// How many digits n has. The number of turns is fixed, so that the compiler makes a row of comparisons of them, and a shorter one for a caller whose n is smaller: a loop
+// that divides n would cost `put_time` a register.
 fn width_of(n: u64) -> usize
     ensures { λ r. ⌜ r ≡ width n ⌝ }
 {

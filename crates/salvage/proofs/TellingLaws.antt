@@ -19,7 +19,7 @@ use Rattle.table.specs.declared.Checked.the-variants.{Fine, Refused}
 use Rattle.table.specs.declared.Written.{Written}
 use Rattle.table.specs.declared.Written.the-variants.{Wrote, NotWritten}
 use Rattle.table.specs.Answers.{orWrote}
-use Rattle.put.proofs.TextLaws.{count-most}
+use Rattle.put.proofs.TextLaws.{count-small}
 use Rattle.put.proofs.OutputLaws.{text-within}
 use Rattle.refusal.specs.declared.Source.the-variants.{Card}
 use Rattle.refusal.proofs.LineLaws.{refusal-most}
@@ -43,12 +43,12 @@ word-most code = go (eqb code 0) (eqb code 1) (eqb code 2)
     go false false true = omega arith
     go false false false = omega arith
 
-pub line-most : (position code : ℕ) → length (wordLine position (codeWord code)) ≤ 19
+pub line-most : (position code : ℕ) → position ≤ maxBlocks → length (wordLine position (codeWord code)) ≤ 19
 unfolding wordLine
-line-most position code = simp length-append (omega (arith, count-most position, word-most code))
+line-most position code h = simp length-append (omega (arith, count-small position (omega arith), word-most code))
 
-pub lines-most : (n : ℕ) (list : List ℕ) → length (joinTo n (codeLine list)) ≤ n * 19
-lines-most n list = join-bound n 19 (codeLine list) (λ i h. line-most (i + 1) (byteAt list i))
+pub lines-most : (n : ℕ) (list : List ℕ) → n ≤ maxBlocks → length (joinTo n (codeLine list)) ≤ n * 19
+lines-most n list h = join-bound n 19 (codeLine list) (λ i l. line-most (i + 1) (byteAt list i) (omega arith))
 
 -- ---- from the list to the blocks
 
@@ -80,7 +80,7 @@ list-is s list room h r = go (isCard (length s)) refl
 
 -- ---- the refusal
 
-pub refused-most : (w : Written) → length (refusedBy w) ≤ 36
+pub refused-most : (w : Written) → length (refusedBy w) ≤ 56
 refused-most (Wrote n) = omega arith
 refused-most (NotWritten r) = refusal-most Card r
 

@@ -63,4 +63,4 @@ toldText s = joinTo (blocksOf (length s)) (fateLine s) ++ refusedBy (salvageAnsw
 
 -- the most bytes that are told: 64 lines of at most 19 each, and a refusal's line
 abbrev pub maxTold : ℕ
-maxTold = maxBlocks * 19 + 36
+maxTold = maxBlocks * 19 + 56

@@ -17,8 +17,8 @@ use table::Written;
 // The longest card.
 pub(crate) const CARD: usize = MAX_BLOCKS * SIZE;
 
-// No more is told: for each block a line of at most 19 bytes, and a refusal's line of at most 36.
-pub(crate) const TOLD: usize = MAX_BLOCKS * 19 + 36;
+// No more is told: for each block a line of at most 19 bytes, and a refusal's line of at most 56.
+pub(crate) const TOLD: usize = MAX_BLOCKS * 19 + 56;
 
 // How many bytes of an archive, and of what is told, were written.
 pub(crate) struct Made {
@@ -65,7 +65,7 @@ fn put_lines(out: &mut [u8], list: &[u8]) -> usize
 
 // The line of the refusal, if there is one.
 fn put_refused(out: &mut [u8], w: Written) -> usize
-    requires { ⌜ 36 ≤ length (now out) ⌝ }
+    requires { ⌜ 56 ≤ length (now out) ⌝ }
     ensures { λ r. ⌜ (r ≡ length (refusedBy w)) × (now (out .exit) ≡ refusedBy w ++ drop r (now (out .entry))) ⌝ }
 {
     match w {

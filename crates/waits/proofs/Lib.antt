@@ -4,6 +4,8 @@
 --   OthersLaws    those for another resource than one; SummingLaws: the pass that sums the first of them
 --   LowerLaws     the requests of the tasks below one
 --   WaitLaws      what the pass over the tasks has: those kept, and the waits
+--   AnswerLaws    of a table without alpha there are no waits
+--   Determined    two answers are equal
 pub mod CasesHold
 pub mod KeptLaws
 pub mod PlacingLaws
@@ -12,3 +14,5 @@ pub mod OthersLaws
 pub mod SummingLaws
 pub mod LowerLaws
 pub mod WaitLaws
+pub mod AnswerLaws
+pub mod Determined

@@ -16,14 +16,14 @@ use Rattle.basics.proofs.JoinLaws.{join-past, join-rest}
 use Rattle.basics.proofs.RowLaws.{back-none, back-more, back-all}
 use Rattle.basics.proofs.FallingLaws.{falling-length}
 use Rattle.table.specs.declared.Table.{Table}
-use Rattle.table.specs.Limits.{maxTasks, maxResources}
-use Rattle.table.specs.At.{taskAt, pairAt}
+use Rattle.table.specs.Limits.{maxTasks, maxResources, maxAlpha}
+use Rattle.table.specs.At.{taskAt, alphaAt, pairAt}
 use Rattle.table.specs.Accepted.{Accepted}
 use Rattle.table.proofs.RuleLaws.{pair-bounds}
 use Rattle.theory.specs.View.{level, resource, uses}
 use Rattle.theory.specs.Tables.{viewOf}
 use Rattle.waits.specs.Wait.{othersBelow, waitOf}
-use Rattle.waits.specs.Waits.{maxAlpha, alphaAt, AlphasIn, waitIn, waitsOf}
+use Rattle.waits.specs.Answers.{noWaits, slotWait, waitsOf}
 use Rattle.waits.specs.Kept.{maxKept, keysOf, keysFrom, InLimits, KeptWith, othersKept, sumOthers, waitWith}
 use Rattle.waits.proofs.KeptLaws.{each-falling, kept-both}
 use Rattle.waits.proofs.OthersLaws.{others-falling, others-take}
@@ -47,14 +47,14 @@ from-more t i n r kept exit h l was more =
 
 -- ---- the waits
 
-abbrev pub waitsFrom : Table → List ℕ → ℕ → List ℕ
-waitsFrom t alphas i = rowTo maxTasks (λ l. pick (leb i l) (waitIn t alphas l) 0)
+abbrev pub waitsFrom : Table → ℕ → List ℕ
+waitsFrom t i = rowTo maxTasks (λ l. pick (leb i l) (slotWait t l) 0)
 
-pub waits-none : (t : Table) (alphas : List ℕ) → replicate maxTasks 0 ≡ waitsFrom t alphas (t .n)
-waits-none t alphas = back-none (waitIn t alphas) 0 maxTasks (t .n) (λ l h. rw (le-ltb l (t .n) h))
+pub waits-none : (t : Table) → noWaits ≡ waitsFrom t (t .n)
+waits-none t = back-none (slotWait t) 0 maxTasks (t .n) (λ l h. rw (le-ltb l (t .n) h))
 
-pub waits-all : (t : Table) (alphas : List ℕ) (i : ℕ) → i ≡ 0 → waitsFrom t alphas i ≡ waitsOf t alphas
-waits-all t alphas i e = ap (waitsFrom t alphas) e ∙ back-all (waitIn t alphas) 0 maxTasks
+pub waits-all : (t : Table) (i : ℕ) → i ≡ 0 → waitsFrom t i ≡ waitsOf t
+waits-all t i e = ap (waitsFrom t) e ∙ back-all (slotWait t) 0 maxTasks
 
 module _ (t : Table) (a : Accepted t) where
   pub in-limits : (i : ℕ) → i < t .n → InLimits (taskAt t i)
@@ -90,14 +90,14 @@ module _ (t : Table) (a : Accepted t) where
       sum-eq maxResources _ _
       (λ k q. ap (λ (s : ℕ). only (uses v (level i) (resource k)) (v .N (level i) (resource k) * s)) (sum-is i A n k kept h q was))
 
-  pub waits-more : (alphas : List ℕ) → AlphasIn alphas → (i n : ℕ) (kept : List ℕ) → 0 < i → i ≤ t .n → KeptFrom t i n kept
-      → (w : ℕ) → w ≡ waitWith (take n kept) (alphaAt alphas (i - 1)) (taskAt t (i - 1))
-      → (waits : List ℕ) → waits ≡ waitsFrom t alphas i → set waits (i - 1) w ≡ waitsFrom t alphas (i - 1)
-  waits-more alphas r i n kept h l was w e waits p =
+  pub waits-more : (i n : ℕ) (kept : List ℕ) → 0 < i → i ≤ t .n → KeptFrom t i n kept
+      → (w : ℕ) → w ≡ waitWith (take n kept) (alphaAt t (i - 1)) (taskAt t (i - 1))
+      → (waits : List ℕ) → waits ≡ waitsFrom t i → set waits (i - 1) w ≡ waitsFrom t (i - 1)
+  waits-more i n kept h l was w e waits p =
       let s : i ≡ suc (i - 1) = omega arith in
-      let g : w ≡ waitIn t alphas (i - 1) =
+      let g : w ≡ slotWait t (i - 1) =
       e
-      ∙ wait-is (i - 1) (alphaAt alphas (i - 1)) n kept (r .most (i - 1) (omega (arith, a .tasks-most))) (rw (← s) was)
+      ∙ wait-is (i - 1) (alphaAt t (i - 1)) n kept (a .task (i - 1) (omega arith) .alpha-most) (rw (← s) was)
       ∙ sym (rw (lt-ltb (i - 1) (t .n) (omega arith)))
       in
-      (λ j. set ((p ∙ ap (waitsFrom t alphas) s) j) (i - 1) (g j)) ∙ back-more (waitIn t alphas) 0 maxTasks (i - 1) (omega (arith, a .tasks-most))
+      (λ j. set ((p ∙ ap (waitsFrom t) s) j) (i - 1) (g j)) ∙ back-more (slotWait t) 0 maxTasks (i - 1) (omega (arith, a .tasks-most))

@@ -1,5 +1,5 @@
 -- What is kept of the tasks gone through, from the lowest up: their requests as numbers, in falling order, as many as may be needed.
-use Prim.Native.Nat.{ℕ, _+_, _*_, _/_, _%_, _^_, _≤_, _<_}
+use Prim.Native.Nat.{ℕ, _+_, _-_, _*_, _/_, _%_, _^_, _≤_, _<_}
 use mathlib.Core.Path.{_≡_}
 use mathlib.Core.List.{List, [], _∷_}
 use lib.Dec.{eqb, leb, ltb}
@@ -9,12 +9,12 @@ use Rattle.basics.specs.Over.{sumTo, joinTo}
 use Rattle.basics.specs.Largest.{insertInto, sumOf, Descends}
 use Rattle.table.specs.declared.Task.{Task}
 use Rattle.table.specs.declared.Table.{Table}
-use Rattle.table.specs.Limits.{maxResources, maxTime, maxCount}
+use Rattle.table.specs.Limits.{maxTasks, maxResources, maxTime, maxCount, maxAlpha}
 use Rattle.table.specs.At.{taskAt, pairOf}
 
 -- how many are kept: as many as are summed, and one for each lower task
 abbrev pub maxKept : ℕ
-maxKept = 95
+maxKept = maxAlpha + maxTasks - 1
 
 -- ---- a request as a number: the longer it is the larger, and behind that its resource's slot
 

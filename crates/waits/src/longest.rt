@@ -8,13 +8,13 @@ ghost use lib.ListN.{take};
 ghost use Rattle.table.specs.declared.Checked.the-variants.{Fine};
 ghost use Rattle.table.specs.Limits.{maxResources, maxTime, maxCount};
 ghost use Rattle.table.specs.Rules.{tableFault};
-ghost use Rattle.waits.specs.Waits.{AlphasIn, waitsOf};
+ghost use Rattle.waits.specs.Answers.{waitsOf};
 ghost use Rattle.waits.specs.Kept.{maxKept, keySlots, keyOf, keysOf, InLimits, KeptRow, KeptWith, sumOthers, maxOthers, waitFor, waitWith};
 use table::Table;
 use table::Task;
 
 // The numbers kept: 64 that are summed, and one for each of 31 lower tasks.
-const KEPT: usize = 95;
+const KEPT: usize = Table::MAX_ALPHA as usize + Table::MAX_TASKS - 1;
 
 // How many resources a number tells apart.
 const SLOTS: u32 = Table::MAX_RESOURCES as u32;
@@ -154,9 +154,9 @@ fn wait_of(kept: &[u32; KEPT], n: usize, alpha: u32, x: Task) -> u64
 }
 
 // The waits of the tasks of an accepted table, each with its alpha, and 0 past them.
-fn waits_from(t: Table, alphas: [u32; Table::MAX_TASKS]) -> [u64; Table::MAX_TASKS]
-    requires { ⌜ (tableFault t ≡ Fine) × AlphasIn alphas ⌝ }
-    ensures { λ r. ⌜ r ≡ waitsOf t alphas ⌝ }
+pub(crate) fn waits_of(t: Table) -> [u64; Table::MAX_TASKS]
+    requires { ⌜ tableFault t ≡ Fine ⌝ }
+    ensures { λ r. ⌜ r ≡ waitsOf t ⌝ }
 {
     let mut waits = [0u64; Table::MAX_TASKS];
     let mut kept = [0u32; KEPT];
@@ -165,8 +165,7 @@ fn waits_from(t: Table, alphas: [u32; Table::MAX_TASKS]) -> [u64; Table::MAX_TAS
     while 0 < i {
         i -= 1;
         let x = t.tasks[i];
-        let a = alphas[i];
-        waits[i] = wait_of(&kept, n, a, x);
+        waits[i] = wait_of(&kept, n, x.alpha, x);
         n = keep_task(&mut kept, n, x);
     }
     waits

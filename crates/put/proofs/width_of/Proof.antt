@@ -1,5 +1,5 @@
--- `put::width_of` meets its contract. The loop's invariant: the power is 10 ^ k, and n is below none up to it. Assumes nothing.
-use Prim.Native.Nat.{suc, _+_, _-_, _*_, _^_, _≤_}
+-- `put::width_of` meets its contract. The loop's invariant: the power is 10 ^ k, and n is below none of 10, .., 10 ^ k. Assumes nothing.
+use Prim.Native.Nat.{suc, _-_, _^_, _≤_}
 use mathlib.Core.Path.{_≡_}
 use native.Mathlib.Nat.{pow-suc, pow-le-pow-right}
 use native.Mathlib.Numerals.{add-one}
@@ -33,13 +33,15 @@ unfolding width
 returns c =
     let l = c .before .before .loop in
     let n = c .before .before .before .args .n in
-    omega (arith, first-here 19 (l .k) (tens n) (omega arith) (l .inv .2) (lt-ltb n (10 ^ suc (l .k)) (omega (arith, pow-suc 10 (l .k)))))
+    let p = pow-suc 10 (l .k) in
+    omega (arith, first-here 19 (l .k) (tens n) (omega arith) (l .inv .2) (lt-ltb n (10 ^ suc (l .k)) (omega arith)))
 
 loop-again : tie.Need-loop-again Inv-loop μ-loop
 loop-again c =
     let l = c .before .before .loop in
     let n = c .before .before .before .args .n in
-    (omega arith, rw add-one (omega (arith, pow-suc 10 (l .k))), first-more (l .k) (tens n) (l .inv .2) (le-ltb n (10 ^ suc (l .k)) (omega (arith, pow-suc 10 (l .k)))))
+    let p = pow-suc 10 (l .k) in
+    (omega arith, rw add-one (omega arith), first-more (l .k) (tens n) (l .inv .2) (le-ltb n (10 ^ suc (l .k)) (omega arith)))
 
 returns-2 : tie.Need-returns-2 Inv-loop μ-loop
 unfolding width

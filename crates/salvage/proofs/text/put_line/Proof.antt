@@ -3,7 +3,7 @@ use mathlib.Core.List.{append-assoc}
 use native.Mathlib.Omega.{arith}
 use Rattle.basics.specs.Text.{bytes}
 use Rattle.put.specs.Text.{countText}
-use Rattle.put.proofs.TextLaws.{count-most}
+use Rattle.put.proofs.TextLaws.{count-small}
 use Rattle.put.proofs.OutputLaws.{written-all, Upto, upto-first, upto-more, upto-in, upto-room, upto-done}
 use Rattle.salvage.specs.Telling.{codeWord, wordLine}
 use Rattle.salvage.proofs.TellingLaws.{word-most}
@@ -29,7 +29,7 @@ abbrev one : (c : tie.After-length) → Upto (start c .args .out .now) 10
 one c =
     let w = c .before .before .before in
     let n = start c .args .position in
-    upto-first (countText n) (w .put-count .kept .0) (written-all (countText n) _ (omega (arith, start c .pre, count-most n)) (c .length .ensures) (w .put-count .ensures .0) (w .put-count .ensures .1)) (count-most n)
+    upto-first (countText n) (w .put-count .kept .0) (written-all (countText n) _ (omega (arith, start c .pre, count-small n (omega arith))) (c .length .ensures) (w .put-count .ensures .0) (w .put-count .ensures .1)) (count-small n (omega arith))
 
 abbrev two : (c : tie.After-length2) → Upto (start₂ c .args .out .now) 11
 two c =

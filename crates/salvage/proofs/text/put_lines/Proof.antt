@@ -27,14 +27,14 @@ start l = l .before .before .before
 abbrev so-far : (c : tie.In-loop Inv-loop μ-loop) → Upto (start (c .before) .args .out .now) 1_197
 so-far c =
     let l = c .before in
-    upto-of (l .loop .inv .1) (omega (arith, lines-most (l .loop .i) (start l .args .list .now)))
+    upto-of (l .loop .inv .1) (omega (arith, lines-most (l .loop .i) (start l .args .list .now) (omega (arith, start l .pre .1))))
 
 abbrev next : (c : tie.After-put-line Inv-loop μ-loop) → Upto (start (c .before .before .before .before) .args .out .now) 1_216
 next c =
     let l = c .before .before .before in
     let s = start (l .before) in
     let i = l .before .loop .i in
-    upto-more (so-far l) (codeLine (s .args .list .now) i) (c .put-line .kept .0) (c .put-line .ensures) (omega (arith, s .pre .0)) (omega (arith, line-most (i + 1) (byteAt (s .args .list .now) i)))
+    upto-more (so-far l) (codeLine (s .args .list .now) i) (c .put-line .kept .0) (c .put-line .ensures) (omega (arith, s .pre .0)) (omega (arith, line-most (i + 1) (byteAt (s .args .list .now) i) (omega (arith, s .pre .1))))
 
 loop-holds : tie.Need-loop-holds Inv-loop μ-loop
 loop-holds c = (omega arith, rw join-none (filled-none _))

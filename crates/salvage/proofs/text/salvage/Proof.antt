@@ -51,12 +51,12 @@ abbrev one : (p : tie.After-put-lines) → Upto (begin (salvaging p) .args .told
 one p =
     let l = shown (salvaging p) in
     let n = length-take-le (blocks (salvaging p)) (salvaging p .salvage .last .1 .0) (within (salvaging p)) in
-    upto-first (joinTo (length l) (codeLine l)) (p .put-lines .kept .0) (p .put-lines .ensures) (omega (arith, lines-most (length l) l, n, few (salvaging p)))
+    upto-first (joinTo (length l) (codeLine l)) (p .put-lines .kept .0) (p .put-lines .ensures) (omega (arith, lines-most (length l) l (omega (arith, n, few (salvaging p))), n, few (salvaging p)))
 
 abbrev telling : tie.After-put-refused → tie.After-put-lines
 telling q = q .before .before .before .before .before
 
-abbrev two : (q : tie.After-put-refused) → Upto (begin (salvaging (telling q)) .args .told .now) 1_252
+abbrev two : (q : tie.After-put-refused) → Upto (begin (salvaging (telling q)) .args .told .now) 1_272
 two q =
     let v = salvaging (telling q) in
     upto-more (one (telling q)) (refusedBy (v .salvage .result)) (q .put-refused .kept .0) (q .put-refused .ensures) (omega (arith, begin v .pre .1)) (omega (arith, refused-most (v .salvage .result)))
@@ -79,7 +79,7 @@ part-put-refused-start : tie.Need-part-put-refused-start
 part-put-refused-start c = let p = c .before .before .before in upto-in (one p) (omega (arith, begin (salvaging p) .pre .1))
 
 put-refused-requires : tie.Need-put-refused-requires
-put-refused-requires c κs = let p = c .before .before .before .before in upto-room 36 (one p) (omega (arith, begin (salvaging p) .pre .1))
+put-refused-requires c κs = let p = c .before .before .before .before in upto-room 56 (one p) (omega (arith, begin (salvaging p) .pre .1))
 
 add-t22 : tie.Need-add-t22
 add-t22 c = omega (arith, two (c .before .before) .few)

@@ -1,4 +1,4 @@
--- `waits::longest::waits_from` meets its contract. The loop's invariant: the requests of the tasks from slot i on are kept, and the waits of these tasks stored. Assumes nothing.
+-- `waits::longest::waits_of` meets its contract. The loop's invariant: the requests of the tasks from slot i on are kept, and the waits of these tasks stored. Assumes nothing.
 use borrow.Author.Needs.{needs}
 use mathlib.Core.Path.{_≡_, refl, _∙_}
 use native.Mathlib.Nat.{le-refl}
@@ -11,17 +11,17 @@ use Rattle.table.proofs.Acceptance.{fine-accepted}
 use Rattle.waits.specs.Kept.{InLimits, KeptRow}
 use Rattle.waits.proofs.KeptLaws.{kept-row}
 use Rattle.waits.proofs.WaitLaws.{KeptFrom, from-none, from-more, in-limits, waitsFrom, waits-none, waits-more, waits-all}
-use Rattle.waits.proofs.longest.waits_from.Statement.{statement}
-use Rattle.waits.proofs.longest.waits_from.Tie as tie
+use Rattle.waits.proofs.longest.waits_of.Statement.{statement}
+use Rattle.waits.proofs.longest.waits_of.Tie as tie
 
 abbrev Inv-loop : tie.InvT-loop
-Inv-loop t alphas waits₀ kept₀ n₀ i₀ waits kept n i = (i ≤ t .n) × (t .n ≤ maxTasks) × KeptFrom t i n kept × (waits ≡ waitsFrom t alphas i)
+Inv-loop t waits₀ kept₀ n₀ i₀ waits kept n i = (i ≤ t .n) × (t .n ≤ maxTasks) × KeptFrom t i n kept × (waits ≡ waitsFrom t i)
 
 abbrev μ-loop : tie.MeasureT-loop
-μ-loop t alphas waits₀ kept₀ n₀ i₀ waits kept n i = i
+μ-loop t waits₀ kept₀ n₀ i₀ waits kept n i = i
 
 accepted : (b : tie.Start Inv-loop μ-loop) → Accepted (b .args .t1)
-accepted b = fine-accepted (b .args .t1) (b .pre .0)
+accepted b = fine-accepted (b .args .t1) (b .pre)
 
 -- what both calls ask for
 asked : (c : tie.In-loop Inv-loop μ-loop)
@@ -34,7 +34,7 @@ asked c =
 loop-holds : tie.Need-loop-holds Inv-loop μ-loop
 loop-holds c =
     let t = c .args .t1 in
-    (le-refl (t .n), accepted c .tasks-most, from-none t _ refl, waits-none t (c .args .t2))
+    (le-refl (t .n), accepted c .tasks-most, from-none t _ refl, waits-none t)
 
 loop-again : tie.Need-loop-again Inv-loop μ-loop
 loop-again c =
@@ -43,7 +43,7 @@ loop-again c =
     let b = l .before in
     let s = l .loop in
     let t = b .args .t1 in
-    let more = waits-more t (accepted b) (b .args .t2) (b .pre .1) (s .i) (s .n) (s .kept) (omega arith) (omega arith) (s .inv .2) in (
+    let more = waits-more t (accepted b) (s .i) (s .n) (s .kept) (omega arith) (omega arith) (s .inv .2) in (
       omega arith,
       s .inv .1,
       from-more t (s .i) (s .n) (c .keep-task .result) (s .kept) (c .keep-task .last .0) (omega arith) (omega arith) (s .inv .2) (c .keep-task .ensures),
@@ -53,17 +53,15 @@ loop-again c =
 returns : tie.Need-returns Inv-loop μ-loop
 returns c =
     let l = c .before in
-    l .loop .inv .3 ∙ waits-all (l .before .args .t1) (l .before .args .t2) (l .loop .i) (omega arith)
+    l .loop .inv .3 ∙ waits-all (l .before .args .t1) (l .loop .i) (omega arith)
 
-pub waits-from-spec : {M : Type 1} → statement M
-waits-from-spec =
+pub waits-of-spec : {M : Type 1} → statement M
+waits-of-spec =
     tie.close
     (tie.spec
     Inv-loop
     μ-loop
     loop-holds
-    (λ c. search needs)
-    (λ c. search needs)
     (λ c. search needs)
     (λ c. search needs)
     (λ c. search needs)
