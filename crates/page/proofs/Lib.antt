@@ -1,4 +1,4 @@
---   RowLaws      how long a row is, and the row with a verdict's cells
+--   RowLaws      how long a word is, and the row with a verdict's cells
 --   Reports      the page row by row
 --   Printed      the text that a program prints, from the page and the cells that it hands over
 --   Determined   two answers are equal

@@ -4,13 +4,14 @@ ghost use mathlib.Core.List.{_∷_, _++_};
 ghost use Prim.Native.Nat.{_+_, _≤_, _<_};
 ghost use lib.ListN.{length, take, drop};
 ghost use Rattle.page.specs.Report.{boundText, maxRow};
-ghost use Rattle.page.specs.Pages.{wordText, rowOf};
+ghost use Rattle.page.specs.Pages.{wordText, spacedLast, rowOf};
 use crate::Bound;
 use crate::Cells;
+use crate::Last;
 use crate::Word;
 use analysis::Record;
 
-// A space and a field, at a place of out. This and the next two answer the place behind what they put.
+// A space and a field, at a place of out. This and the next three answer the place behind what they put.
 fn spaced(out: &mut [u8], at: usize, s: &[u8]) -> usize
     requires { ⌜ at + length (now s) < length (now out) ⌝ }
     ensures { λ r. ⌜ (r ≡ at + length (32 ∷ now (s .entry))) × (now (out .exit) ≡ take at (now (out .entry)) ++ ((32 ∷ now (s .entry)) ++ drop r (now (out .entry)))) ⌝ }
@@ -32,7 +33,7 @@ fn spaced_word(out: &mut [u8], at: usize, word: Word) -> usize
     }
 }
 
-// A space and a bound.
+// A space and a bound, of at most ten digits.
 fn spaced_bound(out: &mut [u8], at: usize, bound: Bound) -> usize
     requires { ⌜ at + 11 ≤ length (now out) ⌝ }
     ensures { λ r. ⌜ (r ≡ at + length (32 ∷ boundText bound)) × (now (out .exit) ≡ take at (now (out .entry)) ++ ((32 ∷ boundText bound) ++ drop r (now (out .entry)))) ⌝ }
@@ -44,10 +45,23 @@ fn spaced_bound(out: &mut [u8], at: usize, bound: Bound) -> usize
     }
 }
 
-// The row of a record, with its cells.
-pub(crate) fn put_row(out: &mut [u8], x: Record, cells: Cells) -> usize
+// A space and a wait of at most twenty digits, or nothing where there is no such column.
+fn spaced_last(out: &mut [u8], at: usize, last: Last) -> usize
+    requires { ⌜ at + 21 ≤ length (now out) ⌝ }
+    ensures { λ r. ⌜ (r ≡ at + length (spacedLast last)) × (now (out .exit) ≡ take at (now (out .entry)) ++ (spacedLast last ++ drop r (now (out .entry)))) ⌝ }
+    ensures { λ r. ⌜ r ≤ at + 21 ⌝ }
+{
+    match last {
+        Last::Nothing => at,
+        Last::Dash => spaced(out, at, b"-"),
+        Last::Of(wait) => at + put::spaced_count(out, at, wait).length(),
+    }
+}
+
+// The row of a record, with its cells and what stands behind its rounds.
+pub(crate) fn put_row(out: &mut [u8], x: Record, cells: Cells, last: Last) -> usize
     requires { ⌜ maxRow ≤ length (now out) ⌝ }
-    ensures { λ r. ⌜ (r ≡ length (rowOf x cells)) × (now (out .exit) ≡ rowOf x cells ++ drop r (now (out .entry))) ⌝ }
+    ensures { λ r. ⌜ (r ≡ length (rowOf x cells last)) × (now (out .exit) ≡ rowOf x cells last ++ drop r (now (out .entry))) ⌝ }
     ensures { λ r. ⌜ r ≤ maxRow ⌝ }
 {
     let word = cells.0;
@@ -56,6 +70,7 @@ pub(crate) fn put_row(out: &mut [u8], x: Record, cells: Cells) -> usize
     let b = spaced_word(out, a, word);
     let c = spaced_bound(out, b, bound);
     let d = c + put::spaced_count(out, c, x.rounds as u64).length();
-    out[d] = 10;
-    d + 1
+    let e = spaced_last(out, d, last);
+    out[e] = 10;
+    e + 1
 }

@@ -3,6 +3,7 @@ use mathlib.Core.Path.{sym}
 use Prim.Native.Nat.{_≤_}
 use lib.ListN.{length, take}
 use lib.Seq.{length-take-le}
+use Rattle.page.specs.declared.Columns.the-variants.{Four}
 use Rattle.page.specs.Report.{benchAllowance, reportText}
 use Rattle.put.proofs.OutputLaws.{text-within}
 use borrow.Author.Needs.{needs}
@@ -15,7 +16,7 @@ read c = c .before .before .before .before .read-input .ensures _ (c .before .n 
 made : (c : tie.After-report) → c .report .result ≤ length (c .report .last .1 .0)
 made c =
     let n = c .before .before .before .before .n .given .0 .0 in
-    text-within (reportText benchAllowance (take n (c .before .before .before .before .before .before .before .read-input .last .0))) _ (c .report .ensures .0) (c .report .ensures .1)
+    text-within (reportText Four benchAllowance (take n (c .before .before .before .before .before .before .before .read-input .last .0))) _ (c .report .ensures .0) (c .report .ensures .1)
 
 array-share-prefix-space : tie.Need-array-share-prefix-space
 array-share-prefix-space c = read c

@@ -1,4 +1,5 @@
 -- `report::text::report` meets its contract: what is put of the listing's page, with the cells of its verdicts, is the report. Assumes nothing.
+use Rattle.page.specs.declared.Columns.the-variants.{Five}
 use Rattle.page.specs.Report.{reportAllowance}
 use Rattle.page.proofs.Printed.{report-put}
 use borrow.Author.Needs.{needs}
@@ -11,7 +12,7 @@ returns c =
     let p = c .before .before .before in
     let g = p .before .before .before .before in
     let s = g .before .before .before in
-    report-put (s .args .listing .now) reportAllowance (s .args .out .now) (g .page-of .ensures) (p .before .all-cells .ensures) (s .pre) (c .length .ensures) (p .put-page .ensures .0) (p .put-page .ensures .1)
+    report-put (s .args .listing .now) Five reportAllowance (s .args .out .now) (g .page-of .ensures) (p .before .all-cells .ensures) (s .pre) (c .length .ensures) (p .put-page .ensures .0) (p .put-page .ensures .1)
 
 pub report-spec : {M : Type 1} → statement M
 report-spec =
