@@ -18,7 +18,7 @@ use Rattle.block.specs.Block.{blockSize}
 use Rattle.card.specs.Archive.{archiveOf, archivingFault, archivingAnswer, archiving, readArchive}
 use Rattle.card.proofs.ArchiveLaws.{archive-length}
 use Rattle.release.specs.Undo.{Bytes}
-use Rattle.release.proofs.Undo.{reads-back, writes-again, same-archive, one-archive, passes-check}
+use Rattle.release.proofs.Undo.{reads-back, drops-alpha, alpha-alone, writes-again, same-archive, one-archive, reads-none, passes-check}
 use Rattle.release.proofs.Noticed.{noticed}
 use Rattle.promises.specs.Words.{Writes}
 use Rattle.promises.specs.Archives.{Archives}
@@ -28,7 +28,7 @@ listing-clear : (s : List ℕ) (t : Table) → readListing s ≡ accepted t → 
 listing-clear s t e = ap (λ (r : Reading). r .table) (sym (text-back t (listing-passes s t e)) ∙ rewrites s t e)
 
 card-clear : (a : List ℕ) (t : Table) → Bytes a → readArchive a ≡ accepted t → cleared t ≡ t
-card-clear a t bytes e = ap (λ (r : Reading). r .table) (sym (reads-back t (passes-check a t e)) ∙ ap readArchive (writes-again a t bytes e) ∙ e)
+card-clear a t bytes e = ap (λ (r : Reading). r .table) (sym (reads-back t (passes-check a t e) (reads-none a t e)) ∙ ap readArchive (writes-again a t bytes e) ∙ e)
 
 -- the output of an archive, where there is room
 archive-written : (t : Table) (out : List ℕ) → tableFault t ≡ Fine → blockSize * t .n ≤ length out → Writes (archiveOf t) out (archivingAnswer t (length out)) (archiving t out)
@@ -42,11 +42,14 @@ archives-hold =
     record {
       written-archive = archive-written;
       reads-back = reads-back;
+      drops-alpha = drops-alpha;
+      alpha-alone = alpha-alone;
       writes-again = writes-again;
       same-archive = same-archive;
       one-archive = one-archive;
+      reads-none = reads-none;
       passes-check = passes-check;
       noticed = noticed;
-      from-listing = λ s t e. reads-back t (listing-passes s t e) ∙ ap accepted (listing-clear s t e);
+      from-listing = λ s t e none. reads-back t (listing-passes s t e) none ∙ ap accepted (listing-clear s t e);
       from-card = λ a t bytes e. (text-back t (passes-check a t e) ∙ ap accepted (card-clear a t bytes e), writes-again a t bytes e);
     }

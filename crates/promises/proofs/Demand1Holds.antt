@@ -13,7 +13,7 @@ use Rattle.page.specs.Pages.{fitsPage}
 use base.Logic.{id⊢}
 use Rattle.basics.specs.Over.{joinTo}
 use Rattle.table.proofs.Determined.{number-determined, empty-determined}
-use Rattle.rules.proofs.Determined.{first-of-determined, in-range-determined, times-determined, used-in-range-determined, totals-fit-determined, pair-determined}
+use Rattle.rules.proofs.Determined.{first-of-determined, in-range-determined, times-in-range-determined, times-in-order-determined, times-determined, all-or-none-determined, alpha-determined, used-in-range-determined, totals-fit-determined, pair-determined, asked-determined}
 use Rattle.checking.proofs.Determined.{check-determined}
 use Rattle.field.proofs.Determined.{time-determined, count-determined, ends-at-determined}
 use Rattle.put.proofs.Determined.{put-time-determined, put-count-determined, put-text-determined, spaced-count-determined, put-length-determined, count-len-determined, time-len-determined}
@@ -36,6 +36,7 @@ use Rattle.salvaging.proofs.Determined.{code-determined, blocks-of-determined, 
 use Rattle.recovery.proofs.Listed.{list-kept, list-written}
 use Rattle.analysis.specs.Answers.{recordCount, analysed}
 use Rattle.analysis.proofs.Determined.{bound-determined, analyse-all-determined, analyse-determined}
+use Rattle.waits.proofs.Determined.{wait-determined, wait-all-determined}
 use Rattle.page.proofs.Determined.{page-of-determined, put-page-determined}
 use Rattle.promises.specs.Demand1.{Entries, Determines, Keeps, KeepsOrLists, Demand1}
 use Rattle.promises.proofs.RefusalsHold.{first-decides}
@@ -57,6 +58,8 @@ entries =
       salvage-lists = λ κs a r x p. p .1;
       salvage-leaves = λ κs a r x p. p .2;
       bound = λ a r x p. p;
+      wait = λ a r x p. p;
+      wait-all = λ a r x p. p;
       analyse = λ 𝓤 H A mem run κs a r x. id⊢ 𝓤 _;
       analyse-all = λ a r x p. λ j. record { answer = p .0 j; rows = p .1 j };
     }
@@ -69,10 +72,15 @@ determines =
       check = check-determined;
       first-of = first-of-determined;
       in-range = in-range-determined;
+      times-in-range = times-in-range-determined;
+      times-in-order = times-in-order-determined;
       times = times-determined;
+      all-or-none = all-or-none-determined;
+      alpha = alpha-determined;
       used-in-range = used-in-range-determined;
       totals-fit = totals-fit-determined;
       pair = pair-determined;
+      asked = asked-determined;
       time = time-determined;
       count = count-determined;
       ends-at = ends-at-determined;
@@ -102,6 +110,8 @@ determines =
       shares-of = shares-of-determined;
       analyse-all = analyse-all-determined;
       analyse = analyse-determined;
+      wait = wait-determined;
+      wait-all = wait-all-determined;
       page-of = page-of-determined;
       put-page = put-page-determined;
     }

@@ -1,5 +1,5 @@
 --   RefusalsHold                                                                                                                                                        a refusal is given exactly when it is called for
---   Demand1Holds, Demand2Holds, NoEasierHolds, NotEmptyHolds, DecimalsHold, ArchivesHold, PointsHold, WindowHolds, SalvagesHold, RoundsHold, EachReadHolds, ReadsHold, RespondsHold   each promise, by citing the crate or the file that did the work
+--   Demand1Holds, Demand2Holds, NoEasierHolds, NotEmptyHolds, DecimalsHold, ArchivesHold, PointsHold, WindowHolds, SalvagesHold, RoundsHold, EachReadHolds, ReadsHold, RespondsHold, WaitsHold   each promise, by citing the crate or the file that did the work
 --   NoEasierLaws                                                                                                                                                        the one result, over what the analysis reads of two tables
 --   ReadsLaws, SameReadLaws, OnlyRunLaws                                                                                                                                what a verdict reads: of which tasks; the demand is the same where two tables agree on it, and where one run time alone differs
 --   ComparedByTest, AgreeByTest, UnchangedByTest                                                                                                                        two tables compared, and held to what a verdict reads, each by one test that computes
@@ -27,3 +27,4 @@ pub mod UnchangedByTest
 pub mod EachReadHolds
 pub mod ReadsHold
 pub mod RespondsHold
+pub mod WaitsHold

@@ -18,6 +18,7 @@ use Rattle.theory.specs.View.{ceiling}
 use Rattle.theory.specs.Demand.{sharedCT, otherCT, allCT, highCT, DB, S, O, F, L, demandWith}
 use Rattle.theory.specs.Rounds.{countedFrom}
 use Rattle.theory.specs.Tables.{countedIn}
+use Rattle.page.specs.declared.Columns.the-variants.{Four, Five}
 use Rattle.page.specs.Report.{reportAllowance, benchAllowance, rowWith, rowText}
 use Rattle.promises.specs.Points.{Holds, All, none, _and_, points}
 use Rattle.promises.proofs.ThreeTasks.{three, met, missed, meets-in, misses-in, some-allowed}
@@ -26,13 +27,13 @@ pub points-hold : All points
 unfolding Holds points sumTo maxTo firstTo emptyTask emptyTable firstFault timesInRange timesInOrder timesFault isUnused usedInRange pairInRange totalsFit pairFault pairsFault alphaFault taskFault lastAlpha tasksFault tableFault rounded fraction timeField countField width countText fieldCount cpusLine taskLine useLine lineSays pastAfter newTask tableAfter readEnd readLines readListing uncapped workload jobs ceilDiv ceiling sharedCT otherCT allCT highCT DB S O F L demandWith countedFrom countedIn rowWith rowText benchAllowance
 points-hold =
     (let s : String = "cpus 2\ntask 10 2.5 10\nuse 1 1 0.5 0.5\ntask 20 4 15\ntask 30 6 30\nuse 1 2 0.75 1.5\n" in
-    three reportAllowance s (met 3_250 2) (met 4_000 1) (met 14_500 6) some-allowed refl refl (meets-in s 0 2 tt refl) (meets-in s 1 1 tt refl) (meets-in s 2 6 tt refl))
+    three Five reportAllowance s (met 3_250 2) (met 4_000 1) (met 14_500 6) some-allowed refl refl (meets-in s 0 2 tt refl) (meets-in s 1 1 tt refl) (meets-in s 2 6 tt refl))
     and (let s : String = "cpus 2\ntask 10 2.5 10\nuse 1 1 0.5 0.5\ntask 20 4 15\ntask 30 6 14.5\nuse 1 2 0.75 1.5\n" in
-    three reportAllowance s (met 3_250 2) (met 4_000 1) (met 14_500 6) some-allowed refl refl (meets-in s 0 2 tt refl) (meets-in s 1 1 tt refl) (meets-in s 2 6 tt refl))
+    three Five reportAllowance s (met 3_250 2) (met 4_000 1) (met 14_500 6) some-allowed refl refl (meets-in s 0 2 tt refl) (meets-in s 1 1 tt refl) (meets-in s 2 6 tt refl))
     and (let s : String = "cpus 2\ntask 10 2.5 10\nuse 1 1 0.5 0.5\ntask 20 4 15\ntask 30 6 14.499\nuse 1 2 0.75 1.5\n" in
-    three reportAllowance s (met 3_250 2) (met 4_000 1) (missed 5) some-allowed refl refl (meets-in s 0 2 tt refl) (meets-in s 1 1 tt refl) (misses-in s 2 5 tt refl))
+    three Five reportAllowance s (met 3_250 2) (met 4_000 1) (missed 5) some-allowed refl refl (meets-in s 0 2 tt refl) (meets-in s 1 1 tt refl) (misses-in s 2 5 tt refl))
     and (let s : String = "cpus 2\ntask 10 2.5 10\nuse 1 1 0.5 0.5\ntask 20 4 15\ntask 30 6 30\nuse 1 2 0.75 1.5\n" in
-    three benchAllowance s (met 3_250 2) (met 4_000 1) (record { verdict = Open; rounds = 5 }) (lit≤ tt) refl refl refl refl refl)
+    three Four benchAllowance s (met 3_250 2) (met 4_000 1) (record { verdict = Open; rounds = 5 }) (lit≤ tt) refl refl refl refl refl)
     and refl
     and refl
     and refl

@@ -27,6 +27,7 @@ use Rattle.page.specs.Report.{reportAllowance}
 use Rattle.promises.specs.Demand2.{demandIn, deadlineIn}
 use Rattle.promises.specs.NoEasier.{Related}
 use Rattle.promises.specs.NotEmpty.{on, Moves, Lost}
+use Rattle.page.specs.declared.Columns.{Columns}
 use Rattle.promises.specs.Rounds.{PrintsRows}
 use Rattle.promises.specs.Reads.{Above, Reads, FigureKind, processors, tasks, run, deadline, requests, periodAbove, deadlineAbove, shared, other, free, periodBelow, deadlineBelow, high, longest, AgreeOn, SameRead, SameBut, SameWhereRead, SameByFirst, SameAnswers, OnlyRun, VerdictReads}
 use Rattle.promises.proofs.Demand2Holds.{demand2}
@@ -47,10 +48,10 @@ same a b i r h allowance =
     let fault : boundFault b (level i) allowance ≡ boundFault a (level i) allowance = rw (r .first, r .second, q tasks) in
     ap₂ (λ c k. orAnswer c (Known k)) fault counted
 
-printed : (s s' : List ℕ) (a b : Table) (allowance i : ℕ) (row row' : ℕ → Counted) → PrintsRows allowance s a row → PrintsRows allowance s' b row' → i < a .n
+printed : (columns : Columns) (s s' : List ℕ) (a b : Table) (allowance i : ℕ) (row row' : ℕ → Counted) → PrintsRows columns allowance s a row → PrintsRows columns allowance s' b row' → i < a .n
     → Related (λ v w. SameRead v w (level i)) a b → row' i ≡ row i
 unfolding AgreeOn
-printed s s' a b allowance i row row' p q h r =
+printed columns s s' a b allowance i row row' p q h r =
     let e : Known (row' i) ≡ Known (row i) = sym (q .answer i (omega (arith, r .related tasks))) ∙ same a b i r h allowance ∙ p .answer i h in
     cc
 

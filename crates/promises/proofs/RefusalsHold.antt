@@ -2,7 +2,7 @@
 -- Assumes nothing.
 use Prim.Native.Nat.{ℕ, _*_, _<_}
 use mathlib.Core.Path.{_≡_, refl, sym, ap, _∙_}
-use mathlib.Core.Bool.{false}
+use mathlib.Core.Bool.{Bool, true, false}
 use mathlib.Core.Logic.{_⊎_, inl, inr}
 use native.Mathlib.Decide.{decLt}
 use native.Mathlib.Omega.{arith}
@@ -10,7 +10,7 @@ use borrow.Author.Tests.{leb-true, le-leb, lt-leb}
 use Rattle.basics.specs.Exactly.{_exactly-if_}
 use lib.ListN.{length}
 use lib.Dec.{leb}
-use Rattle.basics.specs.Choice.{within}
+use Rattle.basics.specs.Choice.{within, pick}
 use Rattle.basics.proofs.ChoiceLaws.{within-low, within-high}
 use Rattle.table.specs.declared.Level.{Level}
 use Rattle.table.specs.declared.Table.{Table}
@@ -21,7 +21,7 @@ use Rattle.table.specs.declared.Written.the-variants.{NotWritten}
 use Rattle.table.specs.declared.Refusal.{Refusal}
 use Rattle.table.specs.Faults.{Told, Refuses, _then_, unless}
 use Rattle.table.specs.Answers.{orWrote}
-use Rattle.table.specs.Rules.{tableFault}
+use Rattle.table.specs.Rules.{hasAlpha, tableFault}
 use Rattle.table.specs.Refusals.{CallsFor}
 use Rattle.table.proofs.Deciding.{one-number, is-rule, from-rule, from-two, by-first, fails}
 use Rattle.table.proofs.RuleFacts.{range-is}
@@ -38,7 +38,9 @@ use Rattle.recovery.proofs.Called.{salvaged-as-called}
 use Rattle.theory.specs.declared.Counted.{Counted}
 use Rattle.analysis.specs.declared.Answer.the-variants.{Known, Unknown}
 use Rattle.analysis.specs.Answers.{boundFault, boundOf, orAnswer, analysisFault}
-use Rattle.promises.specs.Refusals.{BoundCallsFor, RowCallsFor, OutputCallsFor, NotKnown, NotWrote, FirstDecides}
+use Rattle.waits.specs.declared.Waiting.the-variants.{For, NoAlpha, Unknown as UnknownWait}
+use Rattle.waits.specs.Answers.{waitIn, waitFault, orWaiting, waitAnswer, waitsAfter, allWaits}
+use Rattle.promises.specs.Refusals.{BoundCallsFor, WaitCallsFor, RowCallsFor, OutputCallsFor, NotKnown, NotWaiting, NotWrote, FirstDecides}
 
 module _ (t : Table) {k p : ℕ} where
   called : Refuses (tableFault t) k p → CallsFor t k p
@@ -78,6 +80,29 @@ module _ (t : Table) (i : Level) (allowance : ℕ) where
   bound-given (BoundCallsFor.unknown-task a h) = rw (accepted-fine t a) (by-first _ _ 10 0 (is-rule _ UnknownTask 0 (outside-fails (t .n) (i .0) h)))
   bound-given (BoundCallsFor.no-rounds a r e) =
       rw (accepted-fine t a, range-is 1 (t .n) (i .0) .1 r) (is-rule _ NoRounds 0 (lt-leb 1 allowance (omega arith)))
+
+-- ---- a wait
+
+module _ (t : Table) (i : Level) where
+  wait-called : (k p : ℕ) → Refuses (waitFault t i) k p → WaitCallsFor t i k p
+  unfolding waitFault
+  wait-called k p =
+      from-two (tableFault t) _ k p (λ x. WaitCallsFor.own (called t x))
+      (λ a. from-rule (WaitCallsFor t i) (within 1 (t .n) (i .0)) UnknownTask 0 k p (λ e. WaitCallsFor.unknown-task (fine-accepted t a) (outside (t .n) (i .0) e)))
+
+  wait-given : {k p : ℕ} → WaitCallsFor t i k p → Refuses (waitFault t i) k p
+  unfolding waitFault
+  wait-given (WaitCallsFor.own x) = by-first (tableFault t) _ _ _ (given t x)
+  wait-given (WaitCallsFor.unknown-task a h) = rw (accepted-fine t a) (is-rule _ UnknownTask 0 (outside-fails (t .n) (i .0) h))
+
+-- of all waits the answer is the check's
+waits-checked : (t : Table) → allWaits t .answer ≡ tableFault t
+unfolding allWaits
+waits-checked t = go (tableFault t)
+  where
+    go : (c : Checked) → waitsAfter c t .answer ≡ c
+    go Fine = refl
+    go (Refused r) = refl
 
 -- ---- a row
 
@@ -122,6 +147,14 @@ answer-is says made same is never (Refused q) k p =
 unknown-is : (b : Counted) (c : Checked) (k p : ℕ) → NotKnown (orAnswer c (Known b)) k p exactly-if Refuses c k p
 unknown-is b = answer-is Unknown (λ c. orAnswer c (Known b)) (λ q r e. cc) (λ r. refl) (λ r e. let z : _≡_ {A = ℕ} 0 1 = cc in omega arith)
 
+-- a wait that is answered, For or NoAlpha, is not a refusal
+not-waiting-is : (b : Bool) (w : ℕ) (c : Checked) (k p : ℕ) → NotWaiting (orWaiting c (pick b (For w) NoAlpha)) k p exactly-if Refuses c k p
+not-waiting-is b w = answer-is UnknownWait (λ c. orWaiting c (pick b (For w) NoAlpha)) (λ q r e. cc) (λ r. refl) (never b)
+  where
+    never : (b : Bool) (r : Refusal) → pick b (For w) NoAlpha ≡ UnknownWait r → ⊥
+    never true r e = let z : _≡_ {A = ℕ} 0 1 = cc in omega arith
+    never false r e = let z : _≡_ {A = ℕ} 0 1 = cc in omega arith
+
 not-written-is : (n : ℕ) (c : Checked) (k p : ℕ) → NotWrote (orWrote c n) k p exactly-if Refuses c k p
 not-written-is n = answer-is NotWritten (λ c. orWrote c n) (λ q r e. cc) (λ r. refl) (λ r e. let z : _≡_ {A = ℕ} 0 1 = cc in omega arith)
 
@@ -130,7 +163,7 @@ both : {P Q R : Type 0} → P exactly-if Q → Q exactly-if R → P exactly-if R
 both f g = (λ x. g .0 (f .0 x), λ x. f .1 (g .1 x))
 
 pub first-decides : FirstDecides
-unfolding writeFault writeAnswer archivingFault archivingAnswer boundOf salvageAnswer
+unfolding writeFault writeAnswer archivingFault archivingAnswer boundOf waitAnswer salvageAnswer
 first-decides =
     record {
       numbers = one-number;
@@ -140,6 +173,8 @@ first-decides =
       salvage = salvaged-as-called;
       salvage-answer = λ s entries room k p. both (not-written-is _ (salvageFault s entries room) k p) (salvaged-as-called .refused s entries room k p);
       bound = λ t i allowance k p. both (unknown-is _ (boundFault t i allowance) k p) (bound-called t i allowance k p, bound-given t i allowance);
+      wait = λ t i k p. both (not-waiting-is (hasAlpha t 0) (waitIn t i) (waitFault t i) k p) (wait-called t i k p, wait-given t i);
+      waits = λ t k p. rw waits-checked (table-refused .refused t k p);
       row = λ t allowance room k p. (row-called t allowance room k p, row-given t allowance room);
       output = λ t room k p. both (not-written-is _ (writeFault t room) k p) (output-called t (length (textOf t)) room k p, output-given t (length (textOf t)) room);
       archiving = λ t room k p. both (not-written-is _ (archivingFault t room) k p) (output-called t (blockSize * t .n) room k p, output-given t (blockSize * t .n) room);

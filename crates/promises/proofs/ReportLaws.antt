@@ -12,12 +12,13 @@ use Rattle.table.proofs.Acceptance.{fine-accepted}
 use Rattle.table.specs.Answers.{accepted}
 use Rattle.listing.specs.Read.{readListing}
 use Rattle.analysis.specs.Answers.{analysisFault}
+use Rattle.page.specs.declared.Columns.{Columns}
 use Rattle.page.specs.Report.{orRefusal, pageText, taskRow, reportText}
 use Rattle.meaning.proofs.Meaning.{passes-check}
 
-pub report-accepted : (allowance : ℕ) (s : List ℕ) (t : Table) → 1 ≤ allowance → readListing s ≡ accepted t → reportText allowance s ≡ pageText (t .n) (taskRow t allowance)
+pub report-accepted : (columns : Columns) (allowance : ℕ) (s : List ℕ) (t : Table) → 1 ≤ allowance → readListing s ≡ accepted t → reportText columns allowance s ≡ pageText columns (t .n) (taskRow columns t allowance)
 unfolding reportText analysisFault
-report-accepted allowance s t h e =
+report-accepted columns allowance s t h e =
     let f = passes-check s t e in
-    ap (λ (r : Reading). orRefusal (r .answer then analysisFault (r .table) allowance maxTasks) (pageText (r .table .n) (taskRow (r .table) allowance))) e
+    ap (λ (r : Reading). orRefusal (r .answer then analysisFault (r .table) allowance maxTasks) (pageText columns (r .table .n) (taskRow columns (r .table) allowance))) e
     ∙ rw (f, le-leb 1 allowance h, le-leb (t .n) maxTasks (fine-accepted t f .tasks-most))

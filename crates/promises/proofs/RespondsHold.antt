@@ -42,6 +42,8 @@ use Rattle.schedules.proofs.MissHolds.{miss-holds}
 use Rattle.analysis.specs.declared.Answer.the-variants.{Known}
 use Rattle.analysis.specs.Answers.{boundOf}
 use Rattle.analysis.proofs.ByRounds.{rounds-right, known}
+use Rattle.page.specs.declared.Columns.{Columns}
+use Rattle.page.specs.declared.Columns.the-variants.{Five}
 use Rattle.promises.specs.Demand2.{demandIn, deadlineIn}
 use Rattle.promises.specs.Rounds.{PrintsRows}
 use Rattle.promises.specs.Responds.{NoJobLonger, RowsMeet, ReadNoOther, InTurn, further, shownListing, missListing, Responds}
@@ -79,9 +81,9 @@ met-least t i allowance r u e m =
 reads-closed : (t : Table) → tableFault t ≡ Fine → (X : ℕ → Type 0) → ReadNoOther t X → Closed (viewOf t) X
 reads-closed t fine X c i l h x k u = c i l h x k (units-read (viewOf t) (fine-fitting t fine) (level i) l k u)
 
-others-meet : (allowance : ℕ) (s : List ℕ) (t : Table) (row : ℕ → Counted) (X : ℕ → Type 0) (micros : ℕ → ℕ) → PrintsRows allowance s t row
+others-meet : (columns : Columns) (allowance : ℕ) (s : List ℕ) (t : Table) (row : ℕ → Counted) (X : ℕ → Type 0) (micros : ℕ → ℕ) → PrintsRows columns allowance s t row
     → ReadNoOther t X → RowsMeet t row X micros → NoJobLonger t X micros
-others-meet allowance s t row X micros p c m k pos J o S E r i h x =
+others-meet columns allowance s t row X micros p c m k pos J o S E r i h x =
     let fine : tableFault t ≡ Fine = known t i allowance (p .answer i h) .0 in
     let least : (i : ℕ) → i < t .n → X i → Least (demandIn t i) (deadlineIn t i) (micros i) = λ i h x. met-least t i allowance (row i) (micros i) (p .answer i h) (m i h x) in
     theorem1-holds .bounds (viewOf t) (fine-constrained t fine) X (reads-closed t fine X c) micros
@@ -96,28 +98,28 @@ unfolding missTable sumTo emptyTask emptyTable firstFault timesInRange timesInOr
 miss-listing = refl
 
 -- what `report` says of a task that has a bound
-least-met : (s : List ℕ) (t : Table) (row : ℕ → Counted) → PrintsRows reportAllowance s t row → (i u : ℕ) → i < t .n → Least (demandIn t i) (deadlineIn t i) u → row i .verdict ≡ Meets u
+least-met : (s : List ℕ) (t : Table) (row : ℕ → Counted) → PrintsRows Five reportAllowance s t row → (i u : ℕ) → i < t .n → Least (demandIn t i) (deadlineIn t i) u → row i .verdict ≡ Meets u
 least-met s t row p i u h l =
     let k = known t i reportAllowance (p .answer i h) in
     let v = demand2 .verdicts t i reportAllowance (k .0) h some-allowed in
     let same : v .0 ≡ row i = sym (known t i reportAllowance (v .1) .3) ∙ k .3 in
     ap (λ (c : Counted). c .verdict) (sym same) ∙ v .2 .meets (rounds-hold .never-open t i (v .0) (v .1)) u .1 l
 
-shown-rows : (row : ℕ → Counted) × PrintsRows reportAllowance (bytes shownListing) shownTable row × RowsMeet shownTable row (λ i. Unit) (λ i. getD shownBounds i 0)
+shown-rows : (row : ℕ → Counted) × PrintsRows Five reportAllowance (bytes shownListing) shownTable row × RowsMeet shownTable row (λ i. Unit) (λ i. getD shownBounds i 0)
 unfolding shownTable
 shown-rows =
-    let p = rounds-hold .prints reportAllowance (bytes shownListing) shownTable some-allowed shown-listing in
+    let p = rounds-hold .prints Five reportAllowance (bytes shownListing) shownTable some-allowed shown-listing in
     (p .0, p .1, λ i h x. least-met (bytes shownListing) shownTable (p .0) (p .1) i (getD shownBounds i 0) h (shown-holds .bounded i h))
 
-not-alone : ((allowance : ℕ) (s : List ℕ) (t : Table) (row : ℕ → Counted) (i u : ℕ) → PrintsRows allowance s t row → i < t .n → row i .verdict ≡ Meets u → NoJobLonger t (λ l. l ≡ i) (λ l. u)) → ⊥
+not-alone : ((columns : Columns) (allowance : ℕ) (s : List ℕ) (t : Table) (row : ℕ → Counted) (i u : ℕ) → PrintsRows columns allowance s t row → i < t .n → row i .verdict ≡ Meets u → NoJobLonger t (λ l. l ≡ i) (λ l. u)) → ⊥
 unfolding missTable jobsOf
 not-alone claim =
-    let p = rounds-hold .prints reportAllowance (bytes missListing) missTable some-allowed miss-listing in
+    let p = rounds-hold .prints Five reportAllowance (bytes missListing) missTable some-allowed miss-listing in
     let m = least-met (bytes missListing) missTable (p .0) (p .1) 1 4 (lit< tt) (miss-holds .meets) in
     let e = sym (theorem1-holds .whole (viewOf missTable)) in
     let g = subst (λ (v : View). Generated v (jobsOf missPicture)) e (miss-holds .generated) in
     let r = subst (λ (v : View). UnderPIP v (jobsOf missPicture) (runOf missPicture) 11) e (miss-holds .scheduled) in
-    miss-holds .longer (claim reportAllowance (bytes missListing) missTable (p .0) 1 4 (p .1) (lit< tt) m 1 (le-refl 1) (jobsOf missPicture) g (runOf missPicture) 11 r 1 (lit< tt) refl 0 11 due (le-refl 11))
+    miss-holds .longer (claim Five reportAllowance (bytes missListing) missTable (p .0) 1 4 (p .1) (lit< tt) m 1 (le-refl 1) (jobsOf missPicture) g (runOf missPicture) 11 r 1 (lit< tt) refl 0 11 due (le-refl 11))
   where
     due : jobsOf missPicture .release 1 0 + 1 * 4 ≤ 11
     due = lit≤ tt
@@ -125,8 +127,8 @@ not-alone claim =
 pub responds-hold : Responds
 responds-hold =
     record {
-      all-meet = λ allowance s t row micros p m. others-meet allowance s t row (λ i. Unit) micros p (λ i l h x k u. tt) m;
-      read-meet = λ allowance s t row i micros p m. others-meet allowance s t row (InTurn t i) micros p (λ q l h x k r. further q l h x r) m;
+      all-meet = λ columns allowance s t row micros p m. others-meet columns allowance s t row (λ i. Unit) micros p (λ i l h x k u. tt) m;
+      read-meet = λ columns allowance s t row i micros p m. others-meet columns allowance s t row (InTurn t i) micros p (λ q l h x k r. further q l h x r) m;
       others-meet = others-meet;
       not-alone = not-alone;
       theorem1 = theorem1-holds;

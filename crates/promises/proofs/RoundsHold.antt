@@ -28,6 +28,8 @@ use Rattle.theory.proofs.AllowanceLaws.{open-rounds, settled-rounds, going-open
 use Rattle.analysis.specs.declared.Answer.the-variants.{Known}
 use Rattle.analysis.specs.Answers.{boundOf}
 use Rattle.analysis.proofs.ByRounds.{rounds-end, under-more, bound-known, known}
+use Rattle.page.specs.declared.Columns.{Columns}
+use Rattle.page.specs.declared.Columns.the-variants.{Five}
 use Rattle.page.specs.Report.{reportAllowance, benchAllowance}
 use Rattle.meaning.proofs.Meaning.{passes-check}
 use Rattle.promises.specs.Demand2.{deadlineIn, runIn, CountIn}
@@ -78,15 +80,15 @@ kept a b r i h u n e =
     let x = demand2 .verdicts a i reportAllowance (r .first) h (k .2) in
     (d .0, x .0 .rounds, x .1 ∙ ap (λ (w : Verdict). Known (record { verdict = w; rounds = x .0 .rounds })) (x .2 .meets (never-open a i (x .0) (x .1)) (d .0) .1 (d .1)), d .2)
 
-prints : (allowance : ℕ) (s : List ℕ) (t : Table) → 1 ≤ allowance → readListing s ≡ accepted t → (row : ℕ → Counted) × PrintsRows allowance s t row
-prints allowance s t h e =
-    (λ i. countedIn t allowance (level i), record { table = e; text = report-accepted allowance s t h e; answer = λ i l. bound-known t i allowance (passes-check s t e) l h })
+prints : (columns : Columns) (allowance : ℕ) (s : List ℕ) (t : Table) → 1 ≤ allowance → readListing s ≡ accepted t → (row : ℕ → Counted) × PrintsRows columns allowance s t row
+prints columns allowance s t h e =
+    (λ i. countedIn t allowance (level i), record { table = e; text = report-accepted columns allowance s t h e; answer = λ i l. bound-known t i allowance (passes-check s t e) l h })
 
 printed : (s s' : List ℕ) (a b : Table) → readListing s ≡ accepted a → readListing s' ≡ accepted b → NoEasier (viewOf a) (viewOf b) → KeptInPrint s s' a b
 unfolding prints
 printed s s' a b e f r =
-    let x = prints reportAllowance s a some-allowed e in
-    let y = prints reportAllowance s' b some-allowed f in
+    let x = prints Five reportAllowance s a some-allowed e in
+    let y = prints Five reportAllowance s' b some-allowed f in
     record {
       row = x .0;
       row' = y .0;

@@ -26,6 +26,7 @@ use Rattle.theory.specs.Tables.{viewOf, countedIn}
 use Rattle.theory.proofs.WorkLaws.{uncapped-rises, workload-window, workload-less, workload-rises, workload-grows}
 use Rattle.theory.proofs.BoundLaws.{capped-keeps}
 use Rattle.analysis.proofs.ByRounds.{fine-runs, by-rounds}
+use Rattle.page.specs.declared.Columns.the-variants.{Five}
 use Rattle.page.specs.Report.{reportAllowance, rowWith, rowText}
 use Rattle.promises.specs.Words.{readTable}
 use Rattle.promises.specs.Demand2.{demandIn, deadlineIn}
@@ -59,8 +60,8 @@ story-holds =
     record {
       met = by-rounds uncapped uncapped-rises (readTable before) 2 refl (lit< tt) 13 {v = Meets 4_000} refl;
       missed = by-rounds uncapped uncapped-rises (readTable shortened) 2 refl (lit< tt) 3 {v = Misses} refl;
-      meets = three reportAllowance before (met 1_000 1) (met 6_000 1) (met 4_000 13) some-allowed refl refl (meets-in before 0 1 tt refl) (meets-in before 1 1 tt refl) (meets-in before 2 13 tt refl);
-      still-meets = three reportAllowance shortened (met 1_000 1) (met 5_000 1) (met 4_000 13) some-allowed refl refl (meets-in shortened 0 1 tt refl) (meets-in shortened 1 1 tt refl) (meets-in shortened 2 13 tt refl);
+      meets = three Five reportAllowance before (met 1_000 1) (met 6_000 1) (met 4_000 13) some-allowed refl refl (meets-in before 0 1 tt refl) (meets-in before 1 1 tt refl) (meets-in before 2 13 tt refl);
+      still-meets = three Five reportAllowance shortened (met 1_000 1) (met 5_000 1) (met 4_000 13) some-allowed refl refl (meets-in shortened 0 1 tt refl) (meets-in shortened 1 1 tt refl) (meets-in shortened 2 13 tt refl);
       met-late = by-rounds uncapped uncapped-rises (readTable relaxed) 2 refl (lit< tt) 14 {v = Meets 5_000} refl;
-      meets-earlier = three reportAllowance relaxed (met 1_000 1) (met 5_000 1) (met 4_000 13) some-allowed refl refl (meets-in relaxed 0 1 tt refl) (meets-in relaxed 1 1 tt refl) (meets-in relaxed 2 13 tt refl);
+      meets-earlier = three Five reportAllowance relaxed (met 1_000 1) (met 5_000 1) (met 4_000 13) some-allowed refl refl (meets-in relaxed 0 1 tt refl) (meets-in relaxed 1 1 tt refl) (meets-in relaxed 2 13 tt refl);
     }

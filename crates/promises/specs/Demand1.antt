@@ -34,6 +34,7 @@ use Rattle.salvaging.specs.Fates.{codeOf, codesOf}
 use Rattle.salvaging.specs.Salvage.{blocksOf, salvageFault, salvageAnswer, listed, salvaged}
 use Rattle.analysis.specs.declared.Record.{Record}
 use Rattle.analysis.specs.Answers.{boundOf, analysisFault, analysed, FillsRow}
+use Rattle.waits.specs.Answers.{waitAnswer, allWaits}
 use Rattle.page.specs.declared.Page.{Page}
 use Rattle.page.specs.declared.Cells.{Cells}
 use Rattle.page.specs.Pages.{pageAnswer, pageInto}
@@ -44,6 +45,11 @@ use Rattle.rules.proofs.first_of.Reads as first-of
 use Rattle.rules.proofs.in_range.Reads as in-range
 use Rattle.rules.proofs.pair.Reads as pair
 use Rattle.rules.proofs.times.Reads as times
+use Rattle.rules.proofs.times_in_range.Reads as times-in-range
+use Rattle.rules.proofs.times_in_order.Reads as times-in-order
+use Rattle.rules.proofs.all_or_none.Reads as all-or-none
+use Rattle.rules.proofs.alpha.Reads as alpha
+use Rattle.rules.proofs.asked.Reads as asked
 use Rattle.rules.proofs.totals_fit.Reads as totals-fit
 use Rattle.rules.proofs.used_in_range.Reads as used-in-range
 use Rattle.field.proofs.ends_at.Reads as ends-at
@@ -75,6 +81,8 @@ use Rattle.shares.proofs.shares_of.Reads as shares-of
 use Rattle.analysis.proofs.analyse as analyse
 use Rattle.analysis.proofs.analyse_all.Reads as analyse-all
 use Rattle.analysis.proofs.bound.Reads as bound
+use Rattle.waits.proofs.wait.Reads as wait
+use Rattle.waits.proofs.wait_all.Reads as wait-all
 use Rattle.page.proofs.page_of.Reads as page-of
 use Rattle.page.proofs.put_page.Reads as put-page
 use Rattle.promises.specs.Words.{Answers, Leaves}
@@ -97,6 +105,8 @@ pub record Entries : Type 2 where
   pub salvage-lists : (κs : Lfts 3) → Leaves (λ x. x .1 .0 .now) (salvage.Learnt κs) (λ a. listed (a .0 .now) (a .1 .0 .now) (length (a .1 .1 .0 .now)))
   pub salvage-leaves : (κs : Lfts 3) → Leaves (λ x. x .1 .1 .0 .now) (salvage.Learnt κs) (λ a. salvaged (a .0 .now) (length (a .1 .0 .now)) (a .1 .1 .0 .now))
   pub bound : Answers (bound.Learnt tt) (λ a. boundOf (a .0) (a .1 .0) (a .1 .1 .0))
+  pub wait : Answers (wait.Learnt tt) (λ a. waitAnswer (a .0) (a .1 .0))
+  pub wait-all : Answers (wait-all.Learnt tt) (λ a. allWaits (a .0))
   -- `analyse` is walked by hand, and the checker makes no `Learnt` of it: this is its `ensures` itself, as the checker has it, at any arguments a, answer r
   -- and arguments at exit x; it says that the row is filled
   pub analyse : {M : Type 1} (𝓤 : URA M) (H : Heap 𝓤) (A : Atoms 𝓤) (mem : Memory → SProp 𝓤) (run : Routine → Fun 𝓤) (κs : Lfts 1)
@@ -112,10 +122,15 @@ pub record Determines : Type 0 where
   pub check : Determined (check.Learnt tt)
   pub first-of : Determined (first-of.Learnt tt)
   pub in-range : Determined (in-range.Learnt tt)
+  pub times-in-range : Determined (times-in-range.Learnt tt)
+  pub times-in-order : Determined (times-in-order.Learnt tt)
   pub times : Determined (times.Learnt tt)
+  pub all-or-none : Determined (all-or-none.Learnt tt)
+  pub alpha : Determined (alpha.Learnt tt)
   pub used-in-range : Determined (used-in-range.Learnt tt)
   pub totals-fit : Determined (totals-fit.Learnt tt)
   pub pair : Determined (pair.Learnt tt)
+  pub asked : Determined (asked.Learnt tt)
   pub time : (κs : Lfts 1) → Determined (time.Learnt κs)
   pub count : (κs : Lfts 1) → Determined (count.Learnt κs)
   pub ends-at : (κs : Lfts 1) → Determined (ends-at.Learnt κs)
@@ -146,6 +161,8 @@ pub record Determines : Type 0 where
   pub analyse-all : Determined (analyse-all.Learnt tt)
   pub analyse : (t : Table) (allowance : ℕ) (row : List Record) (r s : Checked) (x y : List Record)
       → FillsRow t allowance row r x → FillsRow t allowance row s y → (r ≡ s) × (x ≡ y)
+  pub wait : Determined (wait.Learnt tt)
+  pub wait-all : Determined (wait-all.Learnt tt)
   pub page-of : (κs : Lfts 1) → Determined (page-of.Learnt κs)
   pub put-page : (κs : Lfts 1) → DeterminedWith (λ x. x .0 .now) (put-page.Learnt κs)
 

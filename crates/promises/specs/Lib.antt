@@ -5,14 +5,15 @@
 --   NoEasier  demand 3 and request 7/12, as one result: a table that is no easier never gives a smaller bound
 --   NotEmpty  pairs of tables that show it, computed
 --   Decimals  request 1/12: which fields are times of up to six decimals, and on which side of what was typed each figure lies
---   Archives  request 2/12: writing and reading an archive undo each other, one archive for one table, and a changed byte is noticed
+--   Archives  request 2/12: writing and reading an archive undo each other but for request 8/12's alphas, one archive for one table, and a changed byte is noticed
 --   Window    request 3/12: no workload is more than t in a window of t, none falls as x grows, and every bound is kept or smaller
 --   Salvages  request 5/12: what is made of a card with bad blocks is an archive, nothing is invented, and a spoiled card gives its archive back
 --   Rounds    request 6/12: how many rounds a verdict takes, at most D − C + 1, and what an allowance of them makes of it
 --   Reads     which figures of a table a verdict reads, and of which tasks; a run time changes nothing for the tasks above it
 --   EachRead  tables that show it, computed
 --   Responds  what a report promises about the console: in every run on a kernel of the kind presumed, no job takes longer than its row prints
---   Points    the paper's points marked P, two of them as request 3/12 has them, and the reports with request 6/12's rounds
+--   Waits     request 8/12: the wait that is printed and answered, what reads alpha and what does not, and what a larger alpha does
+--   Points    the paper's points marked P, two of them as request 3/12 has them, and the reports with request 6/12's rounds and request 8/12's column
 --   Words     what these are made of
 pub mod Words
 pub mod Refusals
@@ -28,4 +29,5 @@ pub mod Rounds
 pub mod Reads
 pub mod EachRead
 pub mod Responds
+pub mod Waits
 pub mod Points

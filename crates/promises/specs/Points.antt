@@ -1,4 +1,4 @@
--- The paper's points marked P, every one, two of them as request 3/12 has them, and the reports with request 6/12's rounds: one list, one statement over it.
+-- The paper's points marked P, every one, two of them as request 3/12 has them, and the reports with request 6/12's rounds and request 8/12's column: one list, one statement over it.
 use Prim.Native.Nat.{ℕ}
 use Prim.Native.String.{String}
 use mathlib.Core.Path.{_≡_}
@@ -10,7 +10,7 @@ use Rattle.field.specs.declared.Field.the-variants.{Value}
 use Rattle.field.specs.declared.Rounding.the-variants.{Down, Up}
 use Rattle.field.specs.Number.{timeField}
 use Rattle.theory.specs.Work.{workload}
-use Rattle.page.specs.Report.{reportAllowance, benchAllowance, reportText}
+use Rattle.page.specs.Report.{reportPrints, benchPrints}
 
 pub data Point : Type 0 where
   -- a listing, and what `report` and `bench` print on it
@@ -22,8 +22,8 @@ pub data Point : Type 0 where
   reads : String → ℕ → Point
 
 unfoldable pub Holds : Point → Type 0
-Holds (reports listing text) = reportText reportAllowance (bytes listing) ≡ bytes text
-Holds (benches listing text) = reportText benchAllowance (bytes listing) ≡ bytes text
+Holds (reports listing text) = reportPrints (bytes listing) ≡ bytes text
+Holds (benches listing text) = benchPrints (bytes listing) ≡ bytes text
 Holds (loads T D t x w) = workload T D t x ≡ w
 Holds (reads text us) =
     let value = Value us (length (bytes text)) in
@@ -39,15 +39,15 @@ points =
     -- case A's three bounds, and their rounds: "case A gives 2, 1 and 6"
     reports
     "cpus 2\ntask 10 2.5 10\nuse 1 1 0.5 0.5\ntask 20 4 15\ntask 30 6 30\nuse 1 2 0.75 1.5\n"
-    "task verdict bound_us rounds\n1 meets 3250 2\n2 meets 4000 1\n3 meets 14500 6\n"
+    "task verdict bound_us rounds wait_us\n1 meets 3250 2 -\n2 meets 4000 1 -\n3 meets 14500 6 -\n"
     -- with task 3's D 14.5 it meets at 14,500
     ∷ reports
     "cpus 2\ntask 10 2.5 10\nuse 1 1 0.5 0.5\ntask 20 4 15\ntask 30 6 14.5\nuse 1 2 0.75 1.5\n"
-    "task verdict bound_us rounds\n1 meets 3250 2\n2 meets 4000 1\n3 meets 14500 6\n"
+    "task verdict bound_us rounds wait_us\n1 meets 3250 2 -\n2 meets 4000 1 -\n3 meets 14500 6 -\n"
     -- with 14.499 it misses
     ∷ reports
     "cpus 2\ntask 10 2.5 10\nuse 1 1 0.5 0.5\ntask 20 4 15\ntask 30 6 14.499\nuse 1 2 0.75 1.5\n"
-    "task verdict bound_us rounds\n1 meets 3250 2\n2 meets 4000 1\n3 misses - 5\n"
+    "task verdict bound_us rounds wait_us\n1 meets 3250 2 -\n2 meets 4000 1 -\n3 misses - 5 -\n"
     -- request 6/12: `bench` allows five rounds, and task 3 of case A takes six
     ∷ benches
     "cpus 2\ntask 10 2.5 10\nuse 1 1 0.5 0.5\ntask 20 4 15\ntask 30 6 30\nuse 1 2 0.75 1.5\n"

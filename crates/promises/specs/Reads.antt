@@ -17,6 +17,7 @@ use Rattle.theory.specs.View.{View, level, resource, isAbove, overResources, la
 use Rattle.theory.specs.Demand.{sharedCT, otherCT, allCT, highCT, unitsRead}
 use Rattle.theory.specs.Tables.{viewOf}
 use Rattle.analysis.specs.Answers.{boundOf}
+use Rattle.page.specs.declared.Columns.{Columns}
 use Rattle.promises.specs.NoEasier.{eachTask, eachPair, Related}
 use Rattle.promises.specs.Rounds.{PrintsRows}
 
@@ -126,7 +127,7 @@ SameByFirst v w i = SameBut high v w i × (LongForm v i → eachTask v (λ l. Ab
 pub record VerdictReads : Type 0 where
   pub same : SameAnswers SameRead
   -- and so a program prints the same row of it, the tables being those of two listings
-  pub printed : (s s' : List ℕ) (a b : Table) (allowance i : ℕ) (row row' : ℕ → Counted) → PrintsRows allowance s a row → PrintsRows allowance s' b row' → i < a .n
+  pub printed : (columns : Columns) (s s' : List ℕ) (a b : Table) (allowance i : ℕ) (row row' : ℕ → Counted) → PrintsRows columns allowance s a row → PrintsRows columns allowance s' b row' → i < a .n
       → Related (λ v w. SameRead v w (level i)) a b → row' i ≡ row i
   -- in particular "a longer C of a task, all else the same, changes nothing for the tasks above it"; nor does a shorter one
   pub run-below : (j : Level) → SameAnswers (λ v w i. Above i j × OnlyRun j v w)

@@ -25,6 +25,9 @@ use Rattle.recovery.specs.Refusals.{SalvagedAsCalled, CallsFor as SpoiledCallsF
 use Rattle.analysis.specs.declared.Answer.{Answer}
 use Rattle.analysis.specs.declared.Answer.the-variants.{Unknown}
 use Rattle.analysis.specs.Answers.{boundOf, analysisFault}
+use Rattle.waits.specs.declared.Waiting.{Waiting}
+use Rattle.waits.specs.declared.Waiting.the-variants.{Unknown as UnknownWait}
+use Rattle.waits.specs.Answers.{waitAnswer, allWaits}
 
 -- ---- after the table's own: "10 and 11 come after these, in that order, with place 0", and 16 "after 10 and before 11"
 
@@ -36,6 +39,11 @@ pub data BoundCallsFor (t : Table) (i : Level) (allowance : ℕ) : ℕ → ℕ �
   unknown-task : Accepted t → (i .0 ≡ 0) ⊎ (t .n < i .0) → BoundCallsFor t i allowance 10 0
   -- "allowance 0"
   no-rounds : Accepted t → InRange 1 (t .n) (i .0) → allowance ≡ 0 → BoundCallsFor t i allowance 16 0
+
+-- of a task whose wait is asked for
+pub data WaitCallsFor (t : Table) (i : Level) : ℕ → ℕ → Type 0 where
+  own : {number place : ℕ} → CallsFor t number place → WaitCallsFor t i number place
+  unknown-task : Accepted t → (i .0 ≡ 0) ⊎ (t .n < i .0) → WaitCallsFor t i 10 0
 
 -- of a row with room for so many records
 pub data RowCallsFor (t : Table) (allowance room : ℕ) : ℕ → ℕ → Type 0 where
@@ -55,6 +63,9 @@ pub data OutputCallsFor (t : Table) (needed room : ℕ) : ℕ → ℕ → Type 0
 abbrev pub NotKnown : Answer → ℕ → ℕ → Type 0
 NotKnown a number place = (r : Refusal) × (a ≡ Unknown r) × Told r number place
 
+abbrev pub NotWaiting : Waiting → ℕ → ℕ → Type 0
+NotWaiting w number place = (r : Refusal) × (w ≡ UnknownWait r) × Told r number place
+
 abbrev pub NotWrote : Written → ℕ → ℕ → Type 0
 NotWrote w number place = (r : Refusal) × (w ≡ NotWritten r) × Told r number place
 
@@ -71,9 +82,12 @@ pub record FirstDecides : Type 0 where
   pub salvage : SalvagedAsCalled
   pub salvage-answer : (s : List ℕ) (entries room number place : ℕ)
       → NotWrote (salvageAnswer s entries room) number place exactly-if SpoiledCallsFor s entries room number place
-  -- after the table's own: of a task, of a row, and of an output, be it for a listing or for an archive
+  -- after the table's own: of a task, of its wait, of a row, and of an output, be it for a listing or for an archive
   pub bound : (t : Table) (i : Level) (allowance number place : ℕ)
       → NotKnown (boundOf t i allowance) number place exactly-if BoundCallsFor t i allowance number place
+  pub wait : (t : Table) (i : Level) (number place : ℕ) → NotWaiting (waitAnswer t i) number place exactly-if WaitCallsFor t i number place
+  -- of all its tasks' waits nothing but the table's own
+  pub waits : (t : Table) (number place : ℕ) → Refuses (allWaits t .answer) number place exactly-if CallsFor t number place
   pub row : (t : Table) (allowance room number place : ℕ)
       → Refuses (analysisFault t allowance room) number place exactly-if RowCallsFor t allowance room number place
   pub output : (t : Table) (room number place : ℕ)

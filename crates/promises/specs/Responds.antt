@@ -17,6 +17,8 @@ use Rattle.schedules.specs.Jobs.{JobSet, Generated}
 use Rattle.schedules.specs.Schedule.{Schedule, UnderPIP, RespondsWithin}
 use Rattle.schedules.specs.Theorem.{Theorem1, finer}
 use Rattle.schedules.specs.Shown.{shownTable, shownBounds, Shown, missTable, BesideMiss}
+use Rattle.page.specs.declared.Columns.{Columns}
+use Rattle.page.specs.declared.Columns.the-variants.{Five}
 use Rattle.page.specs.Report.{reportAllowance}
 use Rattle.promises.specs.Reads.{Reads}
 use Rattle.promises.specs.Rounds.{PrintsRows}
@@ -49,22 +51,22 @@ missListing = "cpus 2\ntask 0.006 0.003 0.003\nuse 1 1 0.001 0.001\nuse 2 1 0.00
 
 pub record Responds : Type 1 where
   -- where a program, `report` or `bench`, says `meets` of every task of a listing, each job of a task is finished within the microseconds that its row prints
-  pub all-meet : (allowance : ℕ) (s : List ℕ) (t : Table) (row : ℕ → Counted) (micros : ℕ → ℕ) → PrintsRows allowance s t row
+  pub all-meet : (columns : Columns) (allowance : ℕ) (s : List ℕ) (t : Table) (row : ℕ → Counted) (micros : ℕ → ℕ) → PrintsRows columns allowance s t row
       → RowsMeet t row (λ i. Unit) micros → NoJobLonger t (λ i. Unit) micros
   -- so it is of one task if its row, and the rows of all tasks that it reads directly or in turn, say `meets`; and of every set of tasks that read none but each other
-  pub read-meet : (allowance : ℕ) (s : List ℕ) (t : Table) (row : ℕ → Counted) (i : ℕ) (micros : ℕ → ℕ) → PrintsRows allowance s t row
+  pub read-meet : (columns : Columns) (allowance : ℕ) (s : List ℕ) (t : Table) (row : ℕ → Counted) (i : ℕ) (micros : ℕ → ℕ) → PrintsRows columns allowance s t row
       → RowsMeet t row (InTurn t i) micros → NoJobLonger t (InTurn t i) micros
-  pub others-meet : (allowance : ℕ) (s : List ℕ) (t : Table) (row : ℕ → Counted) (X : ℕ → Type 0) (micros : ℕ → ℕ) → PrintsRows allowance s t row
+  pub others-meet : (columns : Columns) (allowance : ℕ) (s : List ℕ) (t : Table) (row : ℕ → Counted) (X : ℕ → Type 0) (micros : ℕ → ℕ) → PrintsRows columns allowance s t row
       → ReadNoOther t X → RowsMeet t row X micros → NoJobLonger t X micros
   -- Where a row says `misses` or `open`, nothing is promised of that task, nor of those that read it, directly or in turn:
   -- that a row itself says `meets` is not enough (`backlog-below.txt` and `backlog-above.txt` of the examples show it too)
-  pub not-alone : ((allowance : ℕ) (s : List ℕ) (t : Table) (row : ℕ → Counted) (i u : ℕ) → PrintsRows allowance s t row → i < t .n → row i .verdict ≡ Meets u → NoJobLonger t (λ l. l ≡ i) (λ l. u)) → ⊥
+  pub not-alone : ((columns : Columns) (allowance : ℕ) (s : List ℕ) (t : Table) (row : ℕ → Counted) (i u : ℕ) → PrintsRows columns allowance s t row → i < t .n → row i .verdict ≡ Meets u → NoJobLonger t (λ l. l ≡ i) (λ l. u)) → ⊥
   -- the theorem itself, over views, and that none of the facts about a kernel can be left out of it
   pub theorem1 : Theorem1
   -- it is not said of nothing: there is a run without end of the table of a listing of which `report` says `meets` in every row, and in that run a job that takes as long as its row prints
   pub shown : Shown
   pub shown-listing : readListing (bytes shownListing) ≡ accepted shownTable
-  pub shown-rows : (row : ℕ → Counted) × PrintsRows reportAllowance (bytes shownListing) shownTable row × RowsMeet shownTable row (λ i. Unit) (λ i. getD shownBounds i 0)
+  pub shown-rows : (row : ℕ → Counted) × PrintsRows Five reportAllowance (bytes shownListing) shownTable row × RowsMeet shownTable row (λ i. Unit) (λ i. getD shownBounds i 0)
   -- and one of a listing in which the first row says `misses`, and the second task takes longer than its row prints
   pub beside-miss : BesideMiss
   pub miss-listing : readListing (bytes missListing) ≡ accepted missTable

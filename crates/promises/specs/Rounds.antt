@@ -15,7 +15,9 @@ use Rattle.theory.specs.Rounds.{lengthAfter, Ends}
 use Rattle.theory.specs.Tables.{viewOf}
 use Rattle.analysis.specs.declared.Answer.the-variants.{Known}
 use Rattle.analysis.specs.Answers.{boundOf}
-use Rattle.page.specs.Report.{reportAllowance, benchAllowance, rowText, pageText, reportText}
+use Rattle.page.specs.declared.Columns.{Columns}
+use Rattle.page.specs.declared.Columns.the-variants.{Five}
+use Rattle.page.specs.Report.{reportAllowance, benchAllowance, rowText, moreOf, pageText, reportText}
 use Rattle.promises.specs.Demand2.{demandIn, runIn, deadlineIn, CountIn}
 use Rattle.promises.specs.NoEasier.{NoEasier, Harder, Related}
 use Rattle.promises.specs.NotEmpty.{on, tasksA}
@@ -34,22 +36,22 @@ pub record RightRounds (t : Table) (i allowance : ℕ) (r : Counted) : Type 0 wh
   -- never are there more than D − C + 1
   pub most : r .rounds ≤ deadlineIn t i - runIn t i + 1
 
--- the page of n tasks, each with its verdict and its rounds
-abbrev pub rowsText : ℕ → (ℕ → Counted) → List ℕ
-rowsText n row = pageText n (λ i. rowText (suc i) (row i .verdict) (row i .rounds))
+-- the page of a table's tasks, each with its verdict and its rounds, and in five columns with its wait (`Waits`)
+abbrev pub rowsText : Columns → Table → (ℕ → Counted) → List ℕ
+rowsText columns t row = pageText columns (t .n) (λ i. rowText (suc i) (row i .verdict) (row i .rounds) (moreOf columns t i))
 
 -- of a listing, whose table is t, these rows are printed, and they are what `bound` answers
-pub record PrintsRows (allowance : ℕ) (s : List ℕ) (t : Table) (row : ℕ → Counted) : Type 0 where
+pub record PrintsRows (columns : Columns) (allowance : ℕ) (s : List ℕ) (t : Table) (row : ℕ → Counted) : Type 0 where
   pub table : readListing s ≡ accepted t
-  pub text : reportText allowance s ≡ rowsText (t .n) row
+  pub text : reportText columns allowance s ≡ rowsText columns t row
   pub answer : (i : ℕ) → i < t .n → boundOf t (level i) allowance ≡ Known (row i)
 
 -- what `report` prints of two listings, whose tables are a and b: where the second has a bound in the row of a task of the first, the first has one too, and no larger
 pub record KeptInPrint (s s' : List ℕ) (a b : Table) : Type 0 where
   pub row : ℕ → Counted
   pub row' : ℕ → Counted
-  pub first : PrintsRows reportAllowance s a row
-  pub second : PrintsRows reportAllowance s' b row'
+  pub first : PrintsRows Five reportAllowance s a row
+  pub second : PrintsRows Five reportAllowance s' b row'
   pub kept : (i u : ℕ) → i < a .n → row' i .verdict ≡ Meets u → (w : ℕ) × (row i .verdict ≡ Meets w) × (w ≤ u)
 
 -- under this allowance, of a table and one made harder: the second meets after n rounds, and the first, which needs more, is open
@@ -68,8 +70,8 @@ pub record Rounds : Type 0 where
   pub stays : (t : Table) (i A B : ℕ) (r : Counted) → A ≤ B → boundOf t (level i) A ≡ Known r → (r .verdict ≡ Open → ⊥)
       → boundOf t (level i) B ≡ Known r
   -- "a fourth column `rounds`": of an accepted listing a row is printed for each task, with the verdict and the rounds that `bound` answers under the program's allowance
-  pub prints : (allowance : ℕ) (s : List ℕ) (t : Table) → 1 ≤ allowance → readListing s ≡ accepted t
-      → (row : ℕ → Counted) × PrintsRows allowance s t row
+  pub prints : (columns : Columns) (allowance : ℕ) (s : List ℕ) (t : Table) → 1 ≤ allowance → readListing s ≡ accepted t
+      → (row : ℕ → Counted) × PrintsRows columns allowance s t row
   -- under the allowance of `report` none is open,
   pub never-open : (t : Table) (i : ℕ) (r : Counted) → boundOf t (level i) reportAllowance ≡ Known r → r .verdict ≡ Open → ⊥
   -- so that the one result of `NoEasier` holds of what `bound` answers under it,

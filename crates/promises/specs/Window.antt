@@ -12,7 +12,7 @@ use Rattle.theory.specs.View.{level}
 use Rattle.theory.specs.Demand.{loadOf, demandWith}
 use Rattle.theory.specs.Bound.{Least, None}
 use Rattle.theory.specs.Tables.{viewOf}
-use Rattle.page.specs.Report.{reportAllowance, reportText}
+use Rattle.page.specs.Report.{reportPrints}
 use Rattle.promises.specs.Words.{readTable}
 use Rattle.promises.specs.Demand2.{demandIn, runIn, deadlineIn}
 
@@ -65,8 +65,8 @@ pub record Story : Type 0 where
   pub met : Least (thirdUncapped before) (thirdDeadline before) 4_000
   pub missed : None (thirdUncapped shortened) (thirdDeadline shortened)
   -- now it meets in both
-  pub meets : reportText reportAllowance (bytes before) ≡ bytes "task verdict bound_us rounds\n1 meets 1000 1\n2 meets 6000 1\n3 meets 4000 13\n"
-  pub still-meets : reportText reportAllowance (bytes shortened) ≡ bytes "task verdict bound_us rounds\n1 meets 1000 1\n2 meets 5000 1\n3 meets 4000 13\n"
+  pub meets : reportPrints (bytes before) ≡ bytes "task verdict bound_us rounds wait_us\n1 meets 1000 1 -\n2 meets 6000 1 -\n3 meets 4000 13 -\n"
+  pub still-meets : reportPrints (bytes shortened) ≡ bytes "task verdict bound_us rounds wait_us\n1 meets 1000 1 -\n2 meets 5000 1 -\n3 meets 4000 13 -\n"
   -- and a bound that is smaller than before
   pub met-late : Least (thirdUncapped relaxed) (thirdDeadline relaxed) 5_000
-  pub meets-earlier : reportText reportAllowance (bytes relaxed) ≡ bytes "task verdict bound_us rounds\n1 meets 1000 1\n2 meets 5000 1\n3 meets 4000 13\n"
+  pub meets-earlier : reportPrints (bytes relaxed) ≡ bytes "task verdict bound_us rounds wait_us\n1 meets 1000 1 -\n2 meets 5000 1 -\n3 meets 4000 13 -\n"
