@@ -52,6 +52,10 @@ points =
     ∷ benches
     "cpus 2\ntask 10 2.5 10\nuse 1 1 0.5 0.5\ntask 20 4 15\ntask 30 6 30\nuse 1 2 0.75 1.5\n"
     "task verdict bound_us rounds\n1 meets 3250 2\n2 meets 4000 1\n3 open - 5\n"
+    -- request 8/12: "With A 2, N 2, one resource in use and lower values 300, 700 and 400, that is 2,200"
+    ∷ reports
+    "cpus 2\ntask 10 2 10\nalpha 2\nuse 1 2 0.05 0.1\ntask 20 4 20\nalpha 2\nuse 2 1 0.3 0.3\nuse 3 1 0.7 0.7\ntask 30 6 30\nalpha 2\nuse 2 1 0.4 0.4\n"
+    "task verdict bound_us rounds wait_us\n1 meets 2000 1 2200\n2 meets 4400 2 400\n3 meets 12800 11 0\n"
     -- T 10, D 8, x 3: workload 0 at t 0, 3 at 4, 3 at 5, 5 at 7, 6 at 8
     ∷ loads 10 8 0 3 0
     ∷ loads 10 8 4 3 3
