@@ -19,7 +19,7 @@ use theory::Counted;
 use theory::Verdict;
 
 // The words of a task, and of a request that holds a table: an entry point, its argument, m, n in two words, 32 tasks, and an allowance of rounds.
-const TASK: usize = 3 + 3 * Table::MAX_RESOURCES;
+const TASK: usize = 4 + 3 * Table::MAX_RESOURCES;
 
 const ALLOWANCE: usize = 5 + Table::MAX_TASKS * TASK;
 
@@ -62,6 +62,13 @@ fn word(s: &[u8], at: usize) -> u32 {
     s[i] as u32 * 16_777_216 + s[i + 1] as u32 * 65_536 + s[i + 2] as u32 * 256 + s[i + 3] as u32
 }
 
+// The number whose two words begin at a place, the high one first.
+fn long_at(s: &[u8], at: usize) -> u64
+    requires { ⌜ at ≤ 4000 ⌝ }
+{
+    word(s, at) as u64 * 4_294_967_296 + word(s, at + 1) as u64
+}
+
 // The task whose words begin at a place.
 fn task_at(s: &[u8], at: usize) -> Task
     requires { ⌜ at ≤ 4000 ⌝ }
@@ -73,7 +80,7 @@ fn task_at(s: &[u8], at: usize) -> Task
     }; Table::MAX_RESOURCES];
     let mut k: usize = 0;
     while k < Table::MAX_RESOURCES {
-        let p = at + 3 + 3 * k;
+        let p = at + 4 + 3 * k;
         pairs[k] = Pair {
             requests: word(s, p),
             longest: word(s, p + 1),
@@ -85,6 +92,7 @@ fn task_at(s: &[u8], at: usize) -> Task
         period: word(s, at),
         run: word(s, at + 1),
         deadline: word(s, at + 2),
+        alpha: word(s, at + 3),
         pairs,
     }
 }
@@ -93,7 +101,7 @@ fn task_at(s: &[u8], at: usize) -> Task
 fn table_of(s: &[u8]) -> Table {
     let mut t = Table::empty();
     t.cpus = word(s, 2);
-    t.n = word(s, 3) as usize * 4_294_967_296 + word(s, 4) as usize;
+    t.n = long_at(s, 3) as usize;
     let mut i: usize = 0;
     while i < Table::MAX_TASKS {
         t.tasks[i] = task_at(s, 5 + i * TASK);
