@@ -1,4 +1,4 @@
-// A test program: hands a raw table of any numbers to one entry point of the library, a listing or an archive to its reader, a time to its writer, or a card to the tool for bad blocks, and prints the answer and all that was lent.
+// A test program: hands a raw table of any numbers to one entry point of the library, a listing or an archive to its reader, a time or a count to its writer, or a card to the tool for bad blocks, and prints the answer and all that was lent.
 // docs/PROBE.md describes its input. Its contracts say nothing: it is for comparing, and what it calls is proved elsewhere.
 ghost use Prim.Native.Nat.{_≤_};
 ghost use lib.ListN.{length};
@@ -17,6 +17,8 @@ use table::Task;
 use table::Written;
 use theory::Counted;
 use theory::Verdict;
+use waits::Waiting;
+use waits::Waits;
 
 // The words of a task, and of a request that holds a table: an entry point, its argument, m, n in two words, 32 tasks, and an allowance of rounds.
 const TASK: usize = 4 + 3 * Table::MAX_RESOURCES;
@@ -219,6 +221,40 @@ fn bound(t: Table, task: u32, allowance: u32) {
     }
 }
 
+// A wait, on a line.
+fn say_wait(us: u64) {
+    io::print_decimal(STDOUT_FILENO, us);
+    say(b"\n");
+}
+
+fn say_waits(w: Waits) {
+    let answer = w.answer;
+    say_checked(answer);
+    if w.given {
+        say(b"alpha\n");
+    } else {
+        say(b"no alpha\n");
+    }
+    let mut i: usize = 0;
+    while i < Table::MAX_TASKS {
+        say_wait(w.of[i]);
+        i += 1;
+    }
+}
+
+// Entry point 10: `wait`, of a task.
+fn wait(t: Table, task: u32) {
+    let answer = waits::wait(t, Level(task));
+    match answer {
+        Waiting::For(us) => {
+            say(b"wait ");
+            say_wait(us);
+        }
+        Waiting::NoAlpha => say(b"no alpha\n"),
+        Waiting::Unknown(r) => say_refusal(r),
+    }
+}
+
 fn say_wrote(k: usize) {
     say(b"wrote ");
     io::print_decimal(STDOUT_FILENO, k as u64);
@@ -261,6 +297,13 @@ fn time_into(us: u32, out: &mut [u8], room: usize)
     say(out);
 }
 
+fn count_into(n: u64, out: &mut [u8], room: usize)
+    requires { ⌜ room ≤ length (now out) ⌝ }
+{
+    say_put(put::put_count(&mut out[..room], n));
+    say(out);
+}
+
 // The fronts of a list and of an output, lent to the tool for cards with bad blocks; then the answer, all of the list, and all of the output.
 fn salvage_into(input: &[u8], list: &mut [u8], entries: usize, out: &mut [u8], room: usize)
     requires { ⌜ (entries ≤ length (now list)) × (room ≤ length (now out)) ⌝ }
@@ -298,6 +341,16 @@ fn put_time(us: u32, room: u32) {
     }
     let mut out = [b'#'; OUTPUT];
     time_into(us, &mut out, room as usize);
+}
+
+// Entry point 12: `put::put_count`, with an output of so many bytes.
+fn put_count(n: u64, room: u32) {
+    if OUTPUT < room as usize {
+        say(b"bad output\n");
+        return;
+    }
+    let mut out = [b'#'; OUTPUT];
+    count_into(n, &mut out, room as usize);
 }
 
 // What a reader answers; then `writing::write` of the table that it gives.
@@ -369,6 +422,9 @@ fn main() {
         7 => unarchive(&space, argument),
         8 => put_time(word(&space, 2), argument),
         9 => salvage(&space, argument, word(&space, 2), word(&space, 3)),
+        10 => wait(t, argument),
+        11 => say_waits(waits::wait_all(t)),
+        12 => put_count(long_at(&space, 2), argument),
         _ => say(b"bad request\n"),
     }
 }
