@@ -155,6 +155,15 @@ fn say_counted(x: Counted) {
     say_rounds(x.rounds);
 }
 
+// Entry point 1: `check`, which takes no argument.
+fn check(t: Table, argument: u32) {
+    if 0 < argument {
+        say(b"bad argument\n");
+        return;
+    }
+    say_checked(checking::check(t));
+}
+
 // What a record of the row holds before it is lent.
 fn mark(i: usize) -> Record
     requires { ⌜ i ≤ 40 ⌝ }
@@ -253,6 +262,15 @@ fn wait(t: Table, task: u32) {
         Waiting::NoAlpha => say(b"no alpha\n"),
         Waiting::Unknown(r) => say_refusal(r),
     }
+}
+
+// Entry point 11: `wait_all`, which takes no argument.
+fn wait_all(t: Table, argument: u32) {
+    if 0 < argument {
+        say(b"bad argument\n");
+        return;
+    }
+    say_waits(waits::wait_all(t));
 }
 
 fn say_wrote(k: usize) {
@@ -413,7 +431,7 @@ fn main() {
     let t = table_of(&space);
     let argument = word(&space, 1);
     match word(&space, 0) {
-        1 => say_checked(checking::check(t)),
+        1 => check(t, argument),
         2 => bound(t, argument, word(&space, ALLOWANCE)),
         3 => analyse(t, word(&space, ALLOWANCE), argument),
         4 => write(t, argument),
@@ -423,7 +441,7 @@ fn main() {
         8 => put_time(word(&space, 2), argument),
         9 => salvage(&space, argument, word(&space, 2), word(&space, 3)),
         10 => wait(t, argument),
-        11 => say_waits(waits::wait_all(t)),
+        11 => wait_all(t, argument),
         12 => put_count(long_at(&space, 2), argument),
         _ => say(b"bad request\n"),
     }
