@@ -1,4 +1,4 @@
-// Reads a listing from standard input and prints the bound of each task, or the refusal.
+// Reads a listing from standard input and prints the bound and the wait of each task, or the refusal.
 use console::Input;
 use libc::STDERR_FILENO;
 use libc::STDOUT_FILENO;

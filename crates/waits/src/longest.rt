@@ -99,23 +99,24 @@ fn value_of(z: u32) -> u64
     (z / SLOTS) as u64
 }
 
-// The sum of the first so many that are of another resource than the one at slot k.
+// The sum of the first so many that are of another resource than the one at slot k: for each that is of it, one more is looked at.
 fn sum_others(kept: &[u32; KEPT], n: usize, alpha: u32, k: usize) -> u64
     requires { ⌜ KeptRow (now kept) n ⌝ }
     ensures { λ r. ⌜ (r ≡ sumOthers (take n (now (kept .entry))) alpha k) × (r ≤ maxOthers) ⌝ }
 {
     let mut sum: u64 = 0;
-    let mut left = alpha;
+    let mut end = n;
+    if (alpha as usize) < n {
+        end = alpha as usize;
+    }
     let mut i: usize = 0;
-    while i < n {
-        if left == 0 {
-            return sum;
-        }
+    while i < end {
         let z = kept[i];
         i += 1;
         if !is_of(z, k) {
             sum += value_of(z);
-            left -= 1;
+        } else if end < n {
+            end += 1;
         }
     }
     sum
