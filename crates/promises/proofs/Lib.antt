@@ -2,6 +2,7 @@
 --   Demand1Holds, Demand2Holds, NoEasierHolds, NotEmptyHolds, DecimalsHold, ArchivesHold, PointsHold, WindowHolds, SalvagesHold, RoundsHold, EachReadHolds, ReadsHold, RespondsHold, WaitsHold   each promise, by citing the crate or the file that did the work
 --   NoEasierLaws                                                                                                                                                        the one result, over what the analysis reads of two tables
 --   ReadsLaws, SameReadLaws, OnlyRunLaws                                                                                                                                what a verdict reads: of which tasks; the demand is the same where two tables agree on it, and where one run time alone differs
+--   AlphaLaws                                                                                                                                                           what does not read alpha, and what a wait reads
 --   ComparedByTest, AgreeByTest, UnchangedByTest                                                                                                                        two tables compared, and held to what a verdict reads, each by one test that computes
 --   ReportLaws, ThreeTasks                                                                                                                                              the report on an accepted listing, and on three tasks
 pub mod RefusalsHold
@@ -27,4 +28,5 @@ pub mod UnchangedByTest
 pub mod EachReadHolds
 pub mod ReadsHold
 pub mod RespondsHold
+pub mod AlphaLaws
 pub mod WaitsHold
