@@ -97,7 +97,7 @@ hasAlpha t i = ltb 0 (alphaAt t i)
 abbrev pub alphasTo : Table → ℕ → ℕ
 alphasTo t n = countTo n (hasAlpha t)
 
--- the alpha of the last with one among the first i tasks, 0 where there is none
+-- the last alpha, once a task with alpha A, or none, is passed; and that of the last with one among the first i tasks, 0 where there is none
 abbrev pub nextAlpha : ℕ → ℕ → ℕ
 nextAlpha last A = pick (ltb 0 A) A last
 
