@@ -2,7 +2,7 @@
 -- Assumes nothing.
 use Prim.Native.Nat.{ℕ, zero, suc, _+_, _<_}
 use mathlib.Core.Path.{_≡_, refl, ap, _∙_}
-use mathlib.Core.Bool.{Bool, true, false, _&&_}
+use mathlib.Core.Bool.{Bool, true, false, true≢false, _&&_}
 use native.Mathlib.Nat.{not-suc-le-zero, zero-add}
 use borrow.Author.Tests.{ne-eqb}
 use lib.Dec.{eqb}
@@ -39,11 +39,31 @@ all-fails n k p h e = go (allTo n p) refl
     go true f = let z = all-at n k p f h in cc
     go false f = refl
 
+-- two tests that agree
+pub all-eq : (n : ℕ) (p q : ℕ → Bool) → ((k : ℕ) → k < n → p k ≡ q k) → allTo n p ≡ allTo n q
+unfolding allTo
+all-eq zero p q e = refl
+all-eq (suc n) p q e = rw (all-eq n p q (λ k l. e k (omega arith)), e n (omega arith))
+
 -- it holds at each
 pub all-hold : (n : ℕ) (p : ℕ → Bool) → ((k : ℕ) → k < n → p k ≡ true) → allTo n p ≡ true
 unfolding allTo
 all-hold zero p h = refl
 all-hold (suc n) p h = rw (all-hold n p (λ k l. h k (omega arith)), h n (omega arith))
+
+-- where it does not hold at all of them, there is one at which it does not
+pub all-missed : (n : ℕ) (p : ℕ → Bool) → allTo n p ≡ false → (k : ℕ) × (k < n) × (p k ≡ false)
+unfolding allTo
+all-missed zero p e = absurd (true≢false e)
+all-missed (suc n) p e = go (p n) refl (λ f. all-missed n p f)
+  where
+    and-left : (a : Bool) → (a && true) ≡ false → a ≡ false
+    and-left true e = e
+    and-left false e = refl
+
+    go : (b : Bool) → p n ≡ b → (allTo n p ≡ false → (k : ℕ) × (k < n) × (p k ≡ false)) → (k : ℕ) × (k < suc n) × (p k ≡ false)
+    go false f before = (n, omega arith, f)
+    go true f before = let z = before (and-left (allTo n p) (rw f at e)) in (z .0, omega (arith, z .1), z .2)
 
 -- a sum is 0 exactly if each of its values is
 pub all-zero : (n : ℕ) (f : ℕ → ℕ) → eqb (sumTo n f) 0 ≡ allTo n (λ k. eqb (f k) 0)

@@ -19,11 +19,12 @@ use Rattle.table.specs.declared.Checked.the-variants.{Fine}
 use Rattle.table.specs.Limits.{maxCpus, maxTasks, maxResources, maxAlpha}
 use Rattle.table.specs.At.{taskAt, alphaAt, pairOf, totalOf}
 use Rattle.table.specs.Faults.{_then_, unless}
-use Rattle.table.specs.Rules.{timesInRange, timesInOrder, allOrNone, mayFollow, alphaFault, pairFaultOf, pairsFault, taskFault, alphasTo, lastAlpha, taskFaultAt, tasksFault, tableFault}
+use Rattle.table.specs.Rules.{timesInRange, timesInOrder, allOrNone, mayFollow, alphaFault, pairFaultOf, pairsFault, taskFault, alphasTo, lastAlpha, taskFaultAt, tasksFault, tableFault, groupsInRange}
 use Rattle.table.specs.Accepted.{GoodTimes, GoodTo, GoodTask, Accepted}
 use Rattle.table.specs.Refusals.{RisesAt}
 use Rattle.table.proofs.FirstLaws.{first-fine, then-fine, each-fine}
 use Rattle.table.proofs.RuleFacts.{times-range-is, times-order-is}
+use Rattle.table.proofs.GroupLaws.{groups-range-is}
 use Rattle.table.proofs.AlphaLaws.{holds-unless, some-only-is, rises-is, all-or-none, never-rises}
 use Rattle.table.proofs.RuleLaws.{unless-fine, good-times, times-range, times-order, pair-good, pair-fine}
 
@@ -90,17 +91,19 @@ fine-accepted t e =
     let b = then-fine (unless (leb (t .n) maxTasks) TooManyTasks 0) _ (a .1) in
     let c = then-fine (unless (within 1 maxCpus (t .cpus)) OutOfRange 0) _ (b .1) in
     let m = within-true 1 maxCpus (t .cpus) (unless-fine _ OutOfRange 0 (c .0)) in
-    let d = then-fine (unless (allOrNone (alphasTo t (t .n)) (t .n)) AlphaMissing 0) _ (c .1) in
+    let g = then-fine (unless (groupsInRange (t .groups)) OutOfRange 0) _ (c .1) in
+    let d = then-fine (unless (allOrNone (alphasTo t (t .n)) (t .n)) AlphaMissing 0) _ (g .1) in
     let s = all-or-none t .0 (holds-unless _ (some-only-is t) .0 (unless-fine _ AlphaMissing 0 (d .0))) in
-    let g : (i : ℕ) → i < t .n → GoodTask (taskAt t i) × (RisesAt t i → ⊥) = λ i h. good-at t i (each-fine (t .n) (taskFaultAt t) (d .1) i h) in
+    let x : (i : ℕ) → i < t .n → GoodTask (taskAt t i) × (RisesAt t i → ⊥) = λ i h. good-at t i (each-fine (t .n) (taskFaultAt t) (d .1) i h) in
     record {
       tasks-least = leb-true _ _ (unless-fine _ NoTask 0 (a .0));
       tasks-most = leb-true _ _ (unless-fine _ TooManyTasks 0 (b .0));
       cpus-least = m .0;
       cpus-most = m .1;
+      groups-most = groups-range-is t .0 (unless-fine _ OutOfRange 0 (g .0));
       all-or-none = s;
-      never-rises = never-rises t s .0 (λ i h. g i h .1);
-      task = λ i h. g i h .0;
+      never-rises = never-rises t s .0 (λ i h. x i h .1);
+      task = λ i h. x i h .0;
     }
 
 pub accepted-fine : (t : Table) → Accepted t → tableFault t ≡ Fine
@@ -110,6 +113,7 @@ accepted-fine t a =
       le-leb 1 (t .n) (a .tasks-least),
       le-leb (t .n) maxTasks (a .tasks-most),
       within-in 1 maxCpus (t .cpus) (a .cpus-least) (a .cpus-most),
+      groups-range-is t .1 (a .groups-most),
       holds-unless _ (some-only-is t) .1 (all-or-none t .1 (a .all-or-none)),
     )
     (first-fine (t .n) (taskFaultAt t) (λ i h. at-fine t i (a .task i h) (never-rises t (a .all-or-none) .1 (a .never-rises) i h)))

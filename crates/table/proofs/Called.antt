@@ -15,11 +15,12 @@ use Rattle.table.specs.declared.Checked.{Checked}
 use Rattle.table.specs.Limits.{maxCpus, maxTasks, maxResources, maxAlpha}
 use Rattle.table.specs.At.{taskAt, alphaAt, NoAlpha, pairOf, totalOf}
 use Rattle.table.specs.Faults.{Refuses, _then_, unless, firstFault}
-use Rattle.table.specs.Rules.{timesInRange, timesInOrder, allOrNone, mayFollow, alphaFault, pairInRange, totalsFit, pairFault, pairFaultOf, pairsFault, taskFault, alphasTo, lastAlpha, taskFaultAt, tasksFault, tableFault}
+use Rattle.table.specs.Rules.{timesInRange, timesInOrder, allOrNone, mayFollow, alphaFault, pairInRange, totalsFit, pairFault, pairFaultOf, pairsFault, taskFault, alphasTo, lastAlpha, taskFaultAt, tasksFault, tableFault, groupsInRange}
 use Rattle.table.specs.Accepted.{GoodTo}
-use Rattle.table.specs.Refusals.{InRange, TimesInRange, TimesIn, SomeOnly, RisesAt, TaskCallsFor, out-of-range, alpha-out-of-range, alpha-rises, bad-times, pair-out-of-range, bad-totals, CallsFor, no-task, too-many, bad-cpus, alpha-missing, at-task, RefusedAsCalled}
+use Rattle.table.specs.Refusals.{InRange, TimesInRange, TimesIn, SomeOnly, RisesAt, TaskCallsFor, out-of-range, alpha-out-of-range, alpha-rises, bad-times, pair-out-of-range, bad-totals, GroupsInRange, CallsFor, no-task, too-many, bad-cpus, bad-group, alpha-missing, at-task, RefusedAsCalled}
 use Rattle.table.proofs.Deciding.{many-decide, is-rule, from-rule, from-two, by-first, fails, failing}
 use Rattle.table.proofs.RuleFacts.{range-is, times-range-is, times-order-is, pair-range-is, totals-fit-is}
+use Rattle.table.proofs.GroupLaws.{groups-range-is, group-above, above-out}
 use Rattle.table.proofs.AlphaLaws.{holds-unless, some-only-is, rises-is}
 use Rattle.table.proofs.RuleLaws.{unless-fine, good-times, times-range, times-order}
 use Rattle.table.proofs.Acceptance.{good-to, to-fine, alpha-good, alpha-fine, good-at, at-fine, fine-accepted, accepted-fine}
@@ -113,11 +114,11 @@ module _ (t : Table) where
   abbrev given : ℕ
   given = alphasTo t (t .n)
 
-  tasks-call : InRange 1 maxTasks (t .n) → InRange 1 maxCpus (t .cpus) → (SomeOnly t → ⊥) → (k p : ℕ) → Refuses (firstFault (t .n) (taskFaultAt t)) k p → CallsFor t k p
-  tasks-call n m s k p y =
+  tasks-call : InRange 1 maxTasks (t .n) → InRange 1 maxCpus (t .cpus) → GroupsInRange t → (SomeOnly t → ⊥) → (k p : ℕ) → Refuses (firstFault (t .n) (taskFaultAt t)) k p → CallsFor t k p
+  tasks-call n m g s k p y =
       let z = many-decide (t .n) (taskFaultAt t) k p .0 y in
       let c = task-calls t (z .0) k p (z .2) in
-      rw (← c .1) (at-task (z .0) n m s (z .1) (λ j l. good-at t j (z .3 j l)) (c .0))
+      rw (← c .1) (at-task (z .0) n m g s (z .1) (λ j l. good-at t j (z .3 j l)) (c .0))
 
   refused-calls : (k p : ℕ) → Refuses (tableFault t) k p → CallsFor t k p
   unfolding tableFault tasksFault
@@ -132,9 +133,13 @@ module _ (t : Table) where
       (from-rule (CallsFor t) (within 1 maxCpus (t .cpus)) OutOfRange 0 k p (λ e. bad-cpus n (fails _ (range-is 1 maxCpus (t .cpus) .1) e)))
       (λ c.
       let m = range-is 1 maxCpus (t .cpus) .0 (unless-fine _ OutOfRange 0 c) in
+      from-two (unless (groupsInRange (t .groups)) OutOfRange 0) _ k p
+      (from-rule (CallsFor t) (groupsInRange (t .groups)) OutOfRange 0 k p (λ e. let z = group-above t e in bad-group (z .0) n m (z .1) (z .2)))
+      (λ f.
+      let g = groups-range-is t .0 (unless-fine _ OutOfRange 0 f) in
       from-two (unless (allOrNone given (t .n)) AlphaMissing 0) _ k p
-      (from-rule (CallsFor t) (allOrNone given (t .n)) AlphaMissing 0 k p (λ e. alpha-missing n m (some-only-is t .0 e)))
-      (λ d. tasks-call n m (holds-unless _ (some-only-is t) .0 (unless-fine _ AlphaMissing 0 d)) k p))))
+      (from-rule (CallsFor t) (allOrNone given (t .n)) AlphaMissing 0 k p (λ e. alpha-missing n m g (some-only-is t .0 e)))
+      (λ d. tasks-call n m g (holds-unless _ (some-only-is t) .0 (unless-fine _ AlphaMissing 0 d)) k p)))))
 
   calls-refused : (k p : ℕ) → CallsFor t k p → Refuses (tableFault t) k p
   unfolding tableFault tasksFault
@@ -142,10 +147,12 @@ module _ (t : Table) where
   calls-refused _ _ (too-many h) = rw (le-leb 1 (t .n) (omega arith), lt-leb (t .n) maxTasks h) (is-rule _ TooManyTasks 0 refl)
   calls-refused _ _ (bad-cpus n m) =
       rw (le-leb 1 (t .n) (n .0), le-leb (t .n) maxTasks (n .1), failing _ (range-is 1 maxCpus (t .cpus) .0) m) (is-rule _ OutOfRange 0 refl)
-  calls-refused _ _ (alpha-missing n m s) =
-      rw (le-leb 1 (t .n) (n .0), le-leb (t .n) maxTasks (n .1), range-is 1 maxCpus (t .cpus) .1 m, some-only-is t .1 s) (is-rule _ AlphaMissing 0 refl)
-  calls-refused k _ (at-task i n m s h before c) =
-      rw (le-leb 1 (t .n) (n .0), le-leb (t .n) maxTasks (n .1), range-is 1 maxCpus (t .cpus) .1 m, holds-unless _ (some-only-is t) .1 s)
+  calls-refused _ _ (bad-group k n m h l) =
+      rw (le-leb 1 (t .n) (n .0), le-leb (t .n) maxTasks (n .1), range-is 1 maxCpus (t .cpus) .1 m, above-out t k h l) (is-rule _ OutOfRange 0 refl)
+  calls-refused _ _ (alpha-missing n m g s) =
+      rw (le-leb 1 (t .n) (n .0), le-leb (t .n) maxTasks (n .1), range-is 1 maxCpus (t .cpus) .1 m, groups-range-is t .1 g, some-only-is t .1 s) (is-rule _ AlphaMissing 0 refl)
+  calls-refused k _ (at-task i n m g s h before c) =
+      rw (le-leb 1 (t .n) (n .0), le-leb (t .n) maxTasks (n .1), range-is 1 maxCpus (t .cpus) .1 m, groups-range-is t .1 g, holds-unless _ (some-only-is t) .1 s)
       (many-decide (t .n) (taskFaultAt t) k (i + 1) .1 (i, h, task-given t i c, λ j l. let g = before j l in at-fine t j (g .0) (g .1)))
 
 pub refused-as-called : RefusedAsCalled
@@ -166,12 +173,14 @@ pub number-few : {t : Table} {k p : ℕ} → NoAlpha t → InRange 1 maxTasks (t
 number-few z n (no-task h) = absurd (omega (arith, n .0))
 number-few z n (too-many h) = absurd (omega (arith, n .1))
 number-few z n (bad-cpus _ m) = omega arith
-number-few z n (alpha-missing _ m s) = absurd (omega (arith, z (s .with) (s .with-in), s .given))
-number-few z n (at-task i _ m s h before c) = task-number (z i h) c
+number-few z n (bad-group k _ m h l) = omega arith
+number-few z n (alpha-missing _ m g s) = absurd (omega (arith, z (s .with) (s .with-in), s .given))
+number-few z n (at-task i _ m g s h before c) = task-number (z i h) c
 
 pub number-most : {t : Table} {k p : ℕ} → NoAlpha t → CallsFor t k p → k ≤ 9
 number-most z (no-task h) = omega arith
 number-most z (too-many h) = omega arith
 number-most z (bad-cpus n m) = omega arith
-number-most z (alpha-missing n m s) = omega (arith, number-few z n (alpha-missing n m s))
-number-most z (at-task i n m s h before c) = omega (arith, task-number (z i h) c)
+number-most z (bad-group k n m h l) = omega arith
+number-most z (alpha-missing n m g s) = omega (arith, number-few z n (alpha-missing n m g s))
+number-most z (at-task i n m g s h before c) = omega (arith, task-number (z i h) c)

@@ -10,7 +10,7 @@ use native.Mathlib.Omega.{arith}
 use lib.ListN.{getD}
 use Rattle.basics.specs.Exactly.{_exactly-if_}
 use Rattle.table.specs.declared.Fault.{Fault}
-use Rattle.table.specs.declared.Fault.the-variants.{TooLong, BadForm, BadField, OutOfRange, BadTimes, NotRising, BadTotals, TooManyTasks, NoTask, UnknownTask, TooShort, BadLength, BadBlock, Mismatch, BadCard, NoRounds, AlphaMissing, AlphaRises}
+use Rattle.table.specs.declared.Fault.the-variants.{TooLong, BadForm, BadField, OutOfRange, BadTimes, NotRising, BadTotals, TooManyTasks, NoTask, UnknownTask, TooShort, BadLength, BadBlock, Mismatch, BadCard, NoRounds, AlphaMissing, AlphaRises, GroupNotRising, HasGroup}
 use Rattle.table.specs.declared.Refusal.{Refusal}
 use Rattle.table.specs.declared.Checked.{Checked}
 use Rattle.table.specs.declared.Checked.the-variants.{Fine, Refused}
@@ -21,7 +21,7 @@ use Rattle.table.proofs.FirstLaws.{first-at, first-fine, each-fine}
 
 faults : List Fault
 faults =
-    TooLong ∷ BadForm ∷ BadField ∷ OutOfRange ∷ BadTimes ∷ NotRising ∷ BadTotals ∷ TooManyTasks ∷ NoTask ∷ UnknownTask ∷ TooShort ∷ BadLength ∷ BadBlock ∷ Mismatch ∷ BadCard ∷ NoRounds ∷ AlphaMissing ∷ AlphaRises ∷ []
+    TooLong ∷ BadForm ∷ BadField ∷ OutOfRange ∷ BadTimes ∷ NotRising ∷ BadTotals ∷ TooManyTasks ∷ NoTask ∷ UnknownTask ∷ TooShort ∷ BadLength ∷ BadBlock ∷ Mismatch ∷ BadCard ∷ NoRounds ∷ AlphaMissing ∷ AlphaRises ∷ GroupNotRising ∷ HasGroup ∷ []
 
 abbrev faultOf : ℕ → Fault
 faultOf k = getD faults (pred k) TooLong
@@ -46,6 +46,8 @@ number-back BadCard = refl
 number-back NoRounds = refl
 number-back AlphaMissing = refl
 number-back AlphaRises = refl
+number-back GroupNotRising = refl
+number-back HasGroup = refl
 
 pub one-number : (a b : Fault) → numberOf a ≡ numberOf b → a ≡ b
 one-number a b e = sym (number-back a) ∙ ap faultOf e ∙ number-back b

@@ -2,19 +2,22 @@
 -- Assumes nothing.
 use Prim.Native.Nat.{ℕ, zero, suc, _+_, _≤_}
 use mathlib.Core.Path.{_≡_, refl, sym, ap, _∙_}
+use mathlib.Core.Bool.{not}
 use native.Mathlib.Omega.{arith}
 use borrow.Author.Tests.{lt-ltb}
+use lib.Dec.{eqb, leb}
 use Rattle.basics.specs.Over.{sumTo}
 use Rattle.basics.proofs.SumLaws.{sum-eq}
+use Rattle.basics.proofs.AllLaws.{all-eq}
 use Rattle.basics.proofs.RowLaws.{row-at}
 use Rattle.table.specs.declared.Pair.{Pair}
 use Rattle.table.specs.declared.Task.{Task}
 use Rattle.table.specs.declared.Table.{Table}
-use Rattle.table.specs.Limits.{maxTasks, maxResources}
+use Rattle.table.specs.Limits.{maxTasks, maxResources, maxGroup}
 use Rattle.table.specs.Empty.{unusedPair}
-use Rattle.table.specs.At.{noTask, taskAt, pairOf, totalOf, SameTask, Same}
+use Rattle.table.specs.At.{noTask, taskAt, groupAt, pairOf, totalOf, SameTask, Same}
 use Rattle.table.specs.Faults.{firstFault}
-use Rattle.table.specs.Rules.{pairFaultOf, pairsFault, taskFault, alphasTo, lastAlpha, taskFaultAt, tasksFault, tableFault}
+use Rattle.table.specs.Rules.{groupsInRange, hasGroup, pairFaultOf, pairsFault, taskFault, alphasTo, lastAlpha, taskFaultAt, tasksFault, tableFault}
 use Rattle.table.specs.Cleared.{clearedTask, cleared, ClearedSame}
 use Rattle.table.proofs.Acceptance.{fine-accepted}
 use Rattle.table.proofs.FirstLaws.{first-same}
@@ -24,6 +27,7 @@ same-refl a =
     record {
       cpus = refl;
       n = refl;
+      groups = λ k h. refl;
       tasks = λ i h. record { period = refl; run = refl; deadline = refl; alpha = refl; pairs = λ k l. refl };
     }
 
@@ -33,7 +37,7 @@ task-sym x y s =
 
 pub same-sym : (a b : Table) → Same a b → Same b a
 same-sym a b s =
-    record { cpus = sym (s .cpus); n = sym (s .n); tasks = λ i h. task-sym _ _ (s .tasks i (rw (s .n) h)) }
+    record { cpus = sym (s .cpus); n = sym (s .n); groups = λ k h. sym (s .groups k h); tasks = λ i h. task-sym _ _ (s .tasks i (rw (s .n) h)) }
 
 task-trans : (x y z : Task) → SameTask x y → SameTask y z → SameTask x z
 task-trans x y z s t =
@@ -50,6 +54,7 @@ same-trans a b c s t =
     record {
       cpus = s .cpus ∙ t .cpus;
       n = s .n ∙ t .n;
+      groups = λ k h. s .groups k h ∙ t .groups k h;
       tasks = λ i h. task-trans _ _ _ (s .tasks i h) (t .tasks i (rw (s .n) at h));
     }
 
@@ -74,13 +79,21 @@ last-same a b s (suc i) h = rw (last-same a b s i (omega arith), s .tasks i h .a
 given-same : (a b : Table) → Same a b → alphasTo a (a .n) ≡ alphasTo b (b .n)
 given-same a b s = sum-eq (a .n) _ _ (λ i h. rw (s .tasks i h .alpha)) ∙ ap (alphasTo b) (s .n)
 
+groups-same : (a b : Table) → Same a b → groupsInRange (a .groups) ≡ groupsInRange (b .groups)
+unfolding groupsInRange
+groups-same a b s = all-eq maxResources _ _ (λ k h. ap (λ (g : ℕ). leb g maxGroup) (s .groups k h))
+
+pub same-group : (a b : Table) → Same a b → hasGroup (a .groups) ≡ hasGroup (b .groups)
+unfolding hasGroup
+same-group a b s = ap not (all-eq maxResources _ _ (λ k h. ap (λ (g : ℕ). eqb g 0) (s .groups k h)))
+
 pub same-fault : (a b : Table) → Same a b → tableFault a ≡ tableFault b
 unfolding tableFault tasksFault
 same-fault a b s =
     let e : firstFault (a .n) (taskFaultAt a) ≡ firstFault (b .n) (taskFaultAt b) =
     first-same (a .n) (taskFaultAt a) (taskFaultAt b) (λ i h. rw (last-same a b s i (omega arith)) (task-same (i + 1) (lastAlpha b i) _ _ (s .tasks i h)))
     ∙ ap (λ (n : ℕ). firstFault n (taskFaultAt b)) (s .n) in
-    rw (e, given-same a b s, s .cpus, s .n)
+    rw (e, given-same a b s, groups-same a b s, s .cpus, s .n)
 
 -- a table with zeros past the nth task is the same
 pub cleared-same : ClearedSame
@@ -89,6 +102,7 @@ cleared-same t e =
     record {
       cpus = refl;
       n = refl;
+      groups = λ k h. sym (row-at maxResources k (groupAt t) 0 h);
       tasks = λ i h.
           rw (row-at maxTasks i _ noTask (omega (arith, fine-accepted t e .tasks-most)), lt-ltb i (t .n) h)
           (record { period = refl; run = refl; deadline = refl; alpha = refl; pairs = λ k l. sym (row-at maxResources k (pairOf (taskAt t i)) unusedPair l) });

@@ -9,13 +9,14 @@ use borrow.Author.Tests.{ltb-true}
 use lib.ListN.{List·getD-map}
 use lib.Dec.{ltb}
 use Rattle.basics.specs.Choice.{pick}
+use Rattle.basics.specs.Over.{rowTo}
 use Rattle.basics.proofs.RowLaws.{row-eq}
 use Rattle.table.specs.declared.Task.{Task}
 use Rattle.table.specs.declared.Table.{Table}
 use Rattle.table.specs.declared.Checked.the-variants.{Fine}
-use Rattle.table.specs.Limits.{maxTasks}
+use Rattle.table.specs.Limits.{maxTasks, maxResources}
 use Rattle.table.specs.Empty.{emptyTask}
-use Rattle.table.specs.At.{noTask, withAlpha, taskAt, NoAlpha, SameTask, Same}
+use Rattle.table.specs.At.{noTask, withAlpha, taskAt, groupAt, NoAlpha, SameTask, Same}
 use Rattle.table.specs.Rules.{tableFault}
 use Rattle.table.specs.Accepted.{GoodTask}
 use Rattle.table.specs.Cleared.{clearedTask, cleared}
@@ -42,6 +43,7 @@ without-fine t e =
       tasks-most = a .tasks-most;
       cpus-least = a .cpus-least;
       cpus-most = a .cpus-most;
+      groups-most = a .groups-most;
       all-or-none = λ i j h k l. absurd (omega (arith, without-none t i h));
       never-rises = λ i h. omega (arith, without-none t (suc i) h);
       task = λ i h. rw (without-at t i) (good-without (a .task i h));
@@ -56,7 +58,7 @@ unfolding cleared withoutAlpha
 none-cleared t z =
     let e = row-eq maxTasks (λ i. pick (ltb i (t .n)) (clearedTask (taskAt (withoutAlpha t) i)) emptyTask) (λ i. pick (ltb i (t .n)) (clearedTask (taskAt t i)) emptyTask)
     (λ i h. go i (ltb i (t .n)) refl) in
-    ap (λ (row : List Task). record { cpus = t .cpus; n = t .n; tasks = row }) e
+    ap (λ (row : List Task). record { cpus = t .cpus; n = t .n; groups = rowTo maxResources (groupAt t); tasks = row }) e
   where
     go : (i : ℕ) (b : Bool) → ltb i (t .n) ≡ b → pick b (clearedTask (taskAt (withoutAlpha t) i)) emptyTask ≡ pick b (clearedTask (taskAt t i)) emptyTask
     go i true e = ap clearedTask (without-at t i ∙ none-with (taskAt t i) (z i (ltb-true i (t .n) e)))
@@ -70,4 +72,4 @@ but-task x y s = record { period = s .period; run = s .run; deadline = s .deadli
 pub same-but : (a b : Table) → Same a b → SameButAlpha a b
 unfolding withoutAlpha
 same-but a b s =
-    record { cpus = s .cpus; n = s .n; tasks = λ i h. rw (without-at a i, without-at b i) (but-task (taskAt a i) (taskAt b i) (s .tasks i h)) }
+    record { cpus = s .cpus; n = s .n; groups = s .groups; tasks = λ i h. rw (without-at a i, without-at b i) (but-task (taskAt a i) (taskAt b i) (s .tasks i h)) }

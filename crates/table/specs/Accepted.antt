@@ -1,4 +1,4 @@
--- Document 01, "Quantities", and alpha of request 8/12 of document 02, as bounds: what holds of a table that the check finds nothing against.
+-- Document 01, "Quantities", alpha of request 8/12 and the groups of 9/12 of document 02, as bounds: what holds of a table that the check finds nothing against.
 use Prim.Native.Nat.{ℕ, suc, _*_, _≤_, _<_}
 use mathlib.Core.Path.{_≡_}
 use mathlib.Core.Logic.{_⊎_}
@@ -6,9 +6,9 @@ use Rattle.basics.specs.Over.{sumTo}
 use Rattle.table.specs.declared.Pair.{Pair}
 use Rattle.table.specs.declared.Task.{Task}
 use Rattle.table.specs.declared.Table.{Table}
-use Rattle.table.specs.Limits.{maxCpus, maxTasks, maxResources, maxTime, maxCount, maxAlpha}
+use Rattle.table.specs.Limits.{maxCpus, maxTasks, maxResources, maxGroup, maxTime, maxCount, maxAlpha}
 use Rattle.table.specs.Empty.{unusedPair}
-use Rattle.table.specs.At.{taskAt, alphaAt, pairOf, totalOf}
+use Rattle.table.specs.At.{taskAt, alphaAt, groupAt, pairOf, totalOf}
 
 -- 1 ≤ C ≤ D ≤ T ≤ 10,000,000
 pub record GoodTimes (T C D : ℕ) : Type 0 where
@@ -41,6 +41,8 @@ pub record Accepted (t : Table) : Type 0 where
   pub tasks-most : t .n ≤ maxTasks
   pub cpus-least : 1 ≤ t .cpus
   pub cpus-most : t .cpus ≤ maxCpus
+  -- groups: "1 to 16", "0 for none"
+  pub groups-most : (k : ℕ) → k < maxResources → groupAt t k ≤ maxGroup
   -- alpha: "for all tasks or none; A never rises from one task to the next"
   pub all-or-none : (i j : ℕ) → i < t .n → j < t .n → 1 ≤ alphaAt t i → 1 ≤ alphaAt t j
   pub never-rises : (i : ℕ) → suc i < t .n → alphaAt t (suc i) ≤ alphaAt t i

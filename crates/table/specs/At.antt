@@ -7,7 +7,7 @@ use Rattle.table.specs.declared.Pair.{Pair}
 use Rattle.table.specs.declared.Task.{Task}
 use Rattle.table.specs.declared.Table.{Table}
 use Rattle.table.specs.Limits.{maxResources}
-use Rattle.table.specs.Empty.{unusedPair}
+use Rattle.table.specs.Empty.{unusedPair, noGroups}
 
 -- what the checker reads past a row's end, so that `taskAt t i` is the code's `t.tasks[i]`
 abbrev pub noTask : Task
@@ -22,6 +22,13 @@ aTask T C D pairs = record { period = T; run = C; deadline = D; alpha = 0; pairs
 
 abbrev pub withAlpha : ℕ → Task → Task
 withAlpha A x = record { period = x .period; run = x .run; deadline = x .deadline; alpha = A; pairs = x .pairs }
+
+-- a table of m processors and n tasks, without groups, and one with them
+abbrev pub aTable : ℕ → ℕ → List Task → Table
+aTable m n tasks = record { cpus = m; n = n; groups = noGroups; tasks = tasks }
+
+abbrev pub withGroups : List ℕ → Table → Table
+withGroups groups t = record { cpus = t .cpus; n = t .n; groups = groups; tasks = t .tasks }
 
 -- task i + 1 of the paper
 abbrev pub taskAt : Table → ℕ → Task
@@ -46,7 +53,15 @@ pairAt t i k = pairOf (taskAt t i) k
 abbrev pub totalOf : Task → ℕ → ℕ
 totalOf x k = pairOf x k .total
 
--- "Two tables are the same if processors, n and the first n tasks agree"; "tables are the same only if [alpha] agrees too" (document 02, 8/12)
+-- the group of resource k + 1, 0 for none
+abbrev pub groupAt : Table → ℕ → ℕ
+groupAt t k = getD (t .groups) k 0
+
+-- no resource has one
+abbrev pub NoGroup : Table → Type 0
+NoGroup t = (k : ℕ) → k < maxResources → groupAt t k ≡ 0
+
+-- "Two tables are the same if processors, n and the first n tasks agree"; "tables are the same only if [alpha] agrees too" (document 02, 8/12); "the table carries the groups, .. and sameness reads them" (9/12)
 pub record SameTask (x y : Task) : Type 0 where
   pub period : x .period ≡ y .period
   pub run : x .run ≡ y .run
@@ -57,4 +72,5 @@ pub record SameTask (x y : Task) : Type 0 where
 pub record Same (a b : Table) : Type 0 where
   pub cpus : a .cpus ≡ b .cpus
   pub n : a .n ≡ b .n
+  pub groups : (k : ℕ) → k < maxResources → groupAt a k ≡ groupAt b k
   pub tasks : (i : ℕ) → i < a .n → SameTask (taskAt a i) (taskAt b i)

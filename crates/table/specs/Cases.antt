@@ -10,7 +10,7 @@ use Rattle.table.specs.declared.Fault.the-variants.{OutOfRange, BadTimes
 use Rattle.table.specs.declared.Checked.{Checked}
 use Rattle.table.specs.declared.Checked.the-variants.{Fine}
 use Rattle.table.specs.Empty.{unusedPair}
-use Rattle.table.specs.At.{aPair, aTask, withAlpha}
+use Rattle.table.specs.At.{aPair, aTask, withAlpha, aTable, withGroups}
 use Rattle.table.specs.Faults.{at}
 use Rattle.table.specs.Rules.{tableFault}
 
@@ -20,7 +20,11 @@ pub record Case : Type 0 where
 
 -- m, n, the tasks, and the answer
 abbrev case : ℕ → ℕ → List Task → Checked → Case
-case m n tasks answer = record { table = record { cpus = m; n = n; tasks = tasks }; answer = answer }
+case m n tasks answer = record { table = aTable m n tasks; answer = answer }
+
+-- the same with these groups
+abbrev grouped : List ℕ → Case → Case
+grouped groups c = record { table = withGroups groups (c .table); answer = c .answer }
 
 -- a task that nothing is said against
 abbrev good : Task
@@ -121,6 +125,19 @@ cases =
     ∷ case 2 2 (tuned 3 ∷ withAlpha 3 (aTask 10 9 8 []) ∷ []) (at BadTimes 2)
     -- 18 is against the task before, not the first
     ∷ case 2 3 (tuned 9 ∷ tuned 2 ∷ tuned 3 ∷ []) (at AlphaRises 3)
+    -- groups up to 16, of resources in use and not
+    ∷ grouped (replicate 16 16) (case 2 2 (good ∷ good ∷ []) Fine)
+    ∷ grouped (1 ∷ 1 ∷ 0 ∷ 3 ∷ []) (one good Fine)
+    -- above 16: 4 with place 0, whichever resource has it, after 9, 8 and m, and before 17 and the tasks
+    ∷ grouped (17 ∷ []) (one good (at OutOfRange 0))
+    ∷ grouped (replicate 15 0 ++ (4_294_967_295 ∷ [])) (one good (at OutOfRange 0))
+    ∷ grouped (17 ∷ []) (case 2 0 [] (at NoTask 0))
+    ∷ grouped (17 ∷ []) (case 2 33 [] (at TooManyTasks 0))
+    ∷ grouped (17 ∷ []) (case 2 2 (tuned 1 ∷ good ∷ []) (at OutOfRange 0))
+    ∷ grouped (17 ∷ []) (one largest (at OutOfRange 0))
+    -- 4 and 7 are of the pairs as typed: N of 1,000 each and CT that sum to C in one group
+    ∷ grouped (replicate 16 1) (one (aTask 10_000_000 10_000_000 10_000_000 (replicate 16 (aPair 1_000 1_000 625_000))) Fine)
+    ∷ grouped (1 ∷ 1 ∷ []) (one (holding (aPair 1 100 100 ∷ aPair 3 50 151 ∷ [])) (at BadTotals 1))
     ∷ []
 
 abbrev pub CasesHold : Type 0

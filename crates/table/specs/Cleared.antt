@@ -8,7 +8,7 @@ use Rattle.table.specs.declared.Table.{Table}
 use Rattle.table.specs.declared.Checked.the-variants.{Fine}
 use Rattle.table.specs.Limits.{maxTasks, maxResources}
 use Rattle.table.specs.Empty.{emptyTask}
-use Rattle.table.specs.At.{taskAt, pairOf, Same}
+use Rattle.table.specs.At.{taskAt, groupAt, pairOf, Same}
 use Rattle.table.specs.Rules.{tableFault}
 
 unfoldable pub clearedTask : Task → Task
@@ -19,6 +19,7 @@ cleared t =
     record {
       cpus = t .cpus;
       n = t .n;
+      groups = rowTo maxResources (groupAt t);
       tasks = rowTo maxTasks (λ i. pick (ltb i (t .n)) (clearedTask (taskAt t i)) emptyTask);
     }
 

@@ -1,9 +1,9 @@
--- Document 01, "Refusals by number", and requests 2/12, 5/12, 6/12 and 8/12 of document 02: the number of each refusal, and how the first fault decides.
+-- Document 01, "Refusals by number", and requests 2/12, 5/12, 6/12, 8/12 and 9/12 of document 02: the number of each refusal, and how the first fault decides.
 use Prim.Native.Nat.{ℕ, zero, suc}
 use mathlib.Core.Path.{_≡_}
 use mathlib.Core.Bool.{Bool, true, false}
 use Rattle.table.specs.declared.Fault.{Fault}
-use Rattle.table.specs.declared.Fault.the-variants.{TooLong, BadForm, BadField, OutOfRange, BadTimes, NotRising, BadTotals, TooManyTasks, NoTask, UnknownTask, TooShort, BadLength, BadBlock, Mismatch, BadCard, NoRounds, AlphaMissing, AlphaRises}
+use Rattle.table.specs.declared.Fault.the-variants.{TooLong, BadForm, BadField, OutOfRange, BadTimes, NotRising, BadTotals, TooManyTasks, NoTask, UnknownTask, TooShort, BadLength, BadBlock, Mismatch, BadCard, NoRounds, AlphaMissing, AlphaRises, GroupNotRising, HasGroup}
 use Rattle.table.specs.declared.Refusal.{Refusal}
 use Rattle.table.specs.declared.Checked.{Checked}
 use Rattle.table.specs.declared.Checked.the-variants.{Fine, Refused}
@@ -45,6 +45,10 @@ numberOf NoRounds = 16
 numberOf AlphaMissing = 17
 -- alpha above that of the last task before with one
 numberOf AlphaRises = 18
+-- K of a `group` line not above the K of the one before
+numberOf GroupNotRising = 19
+-- a table that has a group, written as an archive of version 1
+numberOf HasGroup = 20
 
 -- a refusal told by its number and its place
 pub record Told (r : Refusal) (k p : ℕ) : Type 0 where

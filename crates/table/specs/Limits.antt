@@ -1,4 +1,4 @@
--- The limits of document 01, "Quantities", and of request 8/12 of document 02. The function `limits` ties each to the constant of `Table`.
+-- The limits of document 01, "Quantities", and of requests 8/12 and 9/12 of document 02. The function `limits` ties each to the constant of `Table`.
 use Prim.Native.Nat.{ℕ}
 
 -- processors
@@ -10,6 +10,10 @@ maxTasks = 32
 
 abbrev pub maxResources : ℕ
 maxResources = 16
+
+-- the group of a resource, "1 to 16"
+abbrev pub maxGroup : ℕ
+maxGroup = 16
 
 -- any time, in microseconds
 abbrev pub maxTime : ℕ

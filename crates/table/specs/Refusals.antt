@@ -1,4 +1,4 @@
--- Document 01, "Refusals by number", and request 8/12 of document 02: the number and the place that a table handed over directly calls for, said a second way. `Rules` says it by tests in a chain
+-- Document 01, "Refusals by number", and requests 8/12 and 9/12 of document 02: the number and the place that a table handed over directly calls for, said a second way. `Rules` says it by tests in a chain
 -- that the first fault ends; here each case stands by itself, in the paper's order, over bounds, and `RefusedAsCalled` says that the two agree.
 use Prim.Native.Nat.{ℕ, _+_, _*_, _≤_, _<_}
 use mathlib.Core.Path.{_≡_}
@@ -9,9 +9,9 @@ use Rattle.table.specs.declared.Pair.{Pair}
 use Rattle.table.specs.declared.Task.{Task}
 use Rattle.table.specs.declared.Table.{Table}
 use Rattle.table.specs.declared.Checked.the-variants.{Fine}
-use Rattle.table.specs.Limits.{maxCpus, maxTasks, maxResources, maxTime, maxCount, maxAlpha}
+use Rattle.table.specs.Limits.{maxCpus, maxTasks, maxResources, maxGroup, maxTime, maxCount, maxAlpha}
 use Rattle.table.specs.Empty.{unusedPair}
-use Rattle.table.specs.At.{taskAt, alphaAt, pairAt, totalOf}
+use Rattle.table.specs.At.{taskAt, alphaAt, groupAt, pairAt, totalOf}
 use Rattle.table.specs.Faults.{Refuses}
 use Rattle.table.specs.Rules.{tableFault}
 use Rattle.table.specs.Accepted.{GoodTo, GoodTask, Accepted}
@@ -88,6 +88,12 @@ pub data TaskCallsFor (t : Table) (i : ℕ) : ℕ → Type 0 where
   bad-totals : (k : ℕ) → k < maxResources → GoodTo (taskAt t i) k → (RisesAt t i → ⊥) → PairInRange (pairAt t i k)
       → (TotalsFit (pairAt t i k) (sumTo (k + 1) (totalOf (taskAt t i))) (taskAt t i .run) → ⊥) → TaskCallsFor t i 7
 
+-- ---- groups
+
+-- what 4 does not refuse, of the groups
+abbrev pub GroupsInRange : Table → Type 0
+GroupsInRange t = (k : ℕ) → k < maxResources → groupAt t k ≤ maxGroup
+
 -- ---- the number and the place that a table calls for
 
 pub data CallsFor (t : Table) : ℕ → ℕ → Type 0 where
@@ -97,10 +103,12 @@ pub data CallsFor (t : Table) : ℕ → ℕ → Type 0 where
   too-many : maxTasks < t .n → CallsFor t 8 0
   -- "m (4), each with place 0"
   bad-cpus : InRange 1 maxTasks (t .n) → (InRange 1 maxCpus (t .cpus) → ⊥) → CallsFor t 4 0
+  -- "a group above 16 is 4 with place 0, right after m": of any resource, used or not
+  bad-group : (k : ℕ) → InRange 1 maxTasks (t .n) → InRange 1 maxCpus (t .cpus) → k < maxResources → maxGroup < groupAt t k → CallsFor t 4 0
   -- 17, "place 0, .. after m in a table"
-  alpha-missing : InRange 1 maxTasks (t .n) → InRange 1 maxCpus (t .cpus) → SomeOnly t → CallsFor t 17 0
+  alpha-missing : InRange 1 maxTasks (t .n) → InRange 1 maxCpus (t .cpus) → GroupsInRange t → SomeOnly t → CallsFor t 17 0
   -- "then task by task .., the place being the task number": task i + 1, where nothing is said against those before it. "Slots past the nth task are not looked at."
-  at-task : (i : ℕ) {number : ℕ} → InRange 1 maxTasks (t .n) → InRange 1 maxCpus (t .cpus) → (SomeOnly t → ⊥) → i < t .n
+  at-task : (i : ℕ) {number : ℕ} → InRange 1 maxTasks (t .n) → InRange 1 maxCpus (t .cpus) → GroupsInRange t → (SomeOnly t → ⊥) → i < t .n
       → ((j : ℕ) → j < i → GoodTask (taskAt t j) × (RisesAt t j → ⊥)) → TaskCallsFor t i number → CallsFor t number (i + 1)
 
 -- ---- the two agree

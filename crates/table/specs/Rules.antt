@@ -1,17 +1,19 @@
 -- Document 01, "Refusals by number": the rules 4, 5 and 7, and of request 8/12 of document 02 the rules 17 and 18, which a table and a listing are both held to,
 -- and the check of a table that is handed over directly. `place` is where a fault is told: a line, or a task's number.
 use Prim.Native.Nat.{ℕ, zero, suc, _+_, _*_}
-use mathlib.Core.Bool.{Bool, _&&_, _||_}
+use mathlib.Core.Bool.{Bool, not, _&&_, _||_}
+use mathlib.Core.List.{List}
 use lib.Dec.{leb, ltb, eqb}
+use lib.ListN.{getD}
 use Rattle.basics.specs.Choice.{pick, within}
-use Rattle.basics.specs.Over.{sumTo, countTo}
+use Rattle.basics.specs.Over.{sumTo, countTo, allTo}
 use Rattle.table.specs.declared.Level.{Level}
 use Rattle.table.specs.declared.Pair.{Pair}
 use Rattle.table.specs.declared.Task.{Task}
 use Rattle.table.specs.declared.Table.{Table}
 use Rattle.table.specs.declared.Checked.{Checked}
 use Rattle.table.specs.declared.Fault.the-variants.{OutOfRange, BadTimes, BadTotals, TooManyTasks, NoTask, UnknownTask, AlphaMissing, AlphaRises}
-use Rattle.table.specs.Limits.{maxCpus, maxTasks, maxResources, maxTime, maxCount, maxAlpha}
+use Rattle.table.specs.Limits.{maxCpus, maxTasks, maxResources, maxGroup, maxTime, maxCount, maxAlpha}
 use Rattle.table.specs.At.{taskAt, alphaAt, pairOf, totalOf}
 use Rattle.table.specs.Faults.{_then_, unless, firstFault}
 
@@ -32,6 +34,16 @@ unfoldable pub timesFault : ℕ → ℕ → ℕ → ℕ → Checked
 timesFault place T C D =
     unless (timesInRange T C D) OutOfRange place then
     unless (timesInOrder T C D) BadTimes place
+
+-- ---- groups (request 9/12)
+
+-- 4: "in a table handed over, a group above 16"; all sixteen are looked at, also those of resources that nobody uses
+unfoldable pub groupsInRange : List ℕ → Bool
+groupsInRange groups = allTo maxResources (λ k. leb (getD groups k 0) maxGroup)
+
+-- "a table that has a group": some resource has one, used or not
+unfoldable pub hasGroup : List ℕ → Bool
+hasGroup groups = not (allTo maxResources (λ k. eqb (getD groups k 0) 0))
 
 -- ---- alpha (request 8/12)
 
@@ -112,12 +124,14 @@ taskFaultAt t i = taskFault (i + 1) (lastAlpha t i) (taskAt t i)
 unfoldable pub tasksFault : Table → Checked
 tasksFault t = firstFault (t .n) (taskFaultAt t)
 
--- "A table handed over directly is checked too: 9, 8, m (4), each with place 0; then task by task"; 17, "place 0, .. after m in a table"
+-- "A table handed over directly is checked too: 9, 8, m (4), each with place 0; then task by task"; a group above 16 "is 4 with place 0, right after m";
+-- 17, "place 0, .. after m in a table"
 unfoldable pub tableFault : Table → Checked
 tableFault t =
     unless (leb 1 (t .n)) NoTask 0 then
     unless (leb (t .n) maxTasks) TooManyTasks 0 then
     unless (within 1 maxCpus (t .cpus)) OutOfRange 0 then
+    unless (groupsInRange (t .groups)) OutOfRange 0 then
     unless (allOrNone (alphasTo t (t .n)) (t .n)) AlphaMissing 0 then
     tasksFault t
 

@@ -4,7 +4,7 @@ use Rattle.table.specs.declared.Table.{Table}
 use Rattle.table.specs.At.{withAlpha, Same}
 
 unfoldable pub withoutAlpha : Table → Table
-withoutAlpha t = record { cpus = t .cpus; n = t .n; tasks = map (withAlpha 0) (t .tasks) }
+withoutAlpha t = record { cpus = t .cpus; n = t .n; groups = t .groups; tasks = map (withAlpha 0) (t .tasks) }
 
 -- two tables that differ in alpha alone, if at all
 abbrev pub SameButAlpha : Table → Table → Type 0

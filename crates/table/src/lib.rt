@@ -1,6 +1,6 @@
 // The task table: its types, its limits and its refusals. The rules that it is held to stand in specs/; their code is in `rules` and `checking`.
 ghost use mathlib.Core.Path.{_≡_};
-ghost use Rattle.table.specs.Limits.{maxCpus, maxTasks, maxResources, maxTime, maxCount, maxAlpha, maxListing};
+ghost use Rattle.table.specs.Limits.{maxCpus, maxTasks, maxResources, maxGroup, maxTime, maxCount, maxAlpha, maxListing};
 ghost use Rattle.table.specs.Empty.{unusedPair, emptyTask, emptyTable};
 ghost use Rattle.table.specs.Faults.{numberOf};
 
@@ -28,6 +28,7 @@ pub struct Task {
 pub struct Table {
     pub cpus: u32, // m
     pub n: usize,
+    pub groups: [u32; Table::MAX_RESOURCES], // the group of resource k at k - 1, 0 where it has none
     pub tasks: [Task; Table::MAX_TASKS], // task i at i - 1
 }
 
@@ -51,6 +52,8 @@ pub enum Fault {
     NoRounds,
     AlphaMissing,
     AlphaRises,
+    GroupNotRising,
+    HasGroup,
 }
 
 // A fault, and where it was found: a line, a task, or a block of an archive.
@@ -100,6 +103,8 @@ impl Fault {
             Fault::NoRounds => 16,
             Fault::AlphaMissing => 17,
             Fault::AlphaRises => 18,
+            Fault::GroupNotRising => 19,
+            Fault::HasGroup => 20,
         }
     }
 }
@@ -138,6 +143,8 @@ impl Table {
 
     pub const MAX_RESOURCES: usize = 16;
 
+    pub const MAX_GROUP: u32 = 16;
+
     pub const MAX_TIME: u32 = 10_000_000; // µs
 
     pub const MAX_COUNT: u32 = 1_000;
@@ -146,7 +153,7 @@ impl Table {
 
     pub const MAX_LISTING: usize = 65_536; // bytes
 
-    // No task, and zeros in every slot.
+    // No task, no group, and zeros in every slot.
     pub fn empty() -> Self
         ensures { λ r. ⌜ r ≡ emptyTable ⌝ }
     {
@@ -154,6 +161,7 @@ impl Table {
         Table {
             cpus: 0,
             n: 0,
+            groups: [0; Table::MAX_RESOURCES],
             tasks,
         }
     }
@@ -164,6 +172,7 @@ fn limits()
     ensures { λ _. do ⌜ (← ⟦Table::MAX_CPUS⟧ .entry) ≡ maxCpus ⌝ }
     ensures { λ _. do ⌜ (← ⟦Table::MAX_TASKS⟧ .entry) ≡ maxTasks ⌝ }
     ensures { λ _. do ⌜ (← ⟦Table::MAX_RESOURCES⟧ .entry) ≡ maxResources ⌝ }
+    ensures { λ _. do ⌜ (← ⟦Table::MAX_GROUP⟧ .entry) ≡ maxGroup ⌝ }
     ensures { λ _. do ⌜ (← ⟦Table::MAX_TIME⟧ .entry) ≡ maxTime ⌝ }
     ensures { λ _. do ⌜ (← ⟦Table::MAX_COUNT⟧ .entry) ≡ maxCount ⌝ }
     ensures { λ _. do ⌜ (← ⟦Table::MAX_ALPHA⟧ .entry) ≡ maxAlpha ⌝ }

@@ -9,7 +9,7 @@ use Rattle.table.proofs.Table.empty.Statement.{statement}
 use Rattle.table.proofs.Table.empty.Tie as tie
 
 abbrev rows : Task → Table
-rows x = record { cpus = 0; n = 0; tasks = replicate 32 x }
+rows x = record { cpus = 0; n = 0; groups = replicate 16 0; tasks = replicate 32 x }
 
 returns : tie.Need-returns
 unfolding emptyTable
