@@ -121,6 +121,13 @@ pub fn check(t: Table) -> Checked
             place: 0,
         });
     }
+    let groups = t.groups;
+    if !rules::groups_in_range(groups) {
+        return Checked::Refused(Refusal {
+            fault: Fault::OutOfRange,
+            place: 0,
+        });
+    }
     if !rules::all_or_none(alphas_in(t), t.n) {
         return Checked::Refused(Refusal {
             fault: Fault::AlphaMissing,

@@ -6,6 +6,8 @@ use Rattle.rules.proofs.all_or_none.Reads as all-or-none
 use Rattle.rules.proofs.alpha.Reads as alpha
 use Rattle.rules.proofs.asked.Reads as asked
 use Rattle.rules.proofs.first_of.Reads as first-of
+use Rattle.rules.proofs.groups_in_range.Reads as groups-in-range
+use Rattle.rules.proofs.has_group.Reads as has-group
 use Rattle.rules.proofs.in_range.Reads as in-range
 use Rattle.rules.proofs.pair.Reads as pair
 use Rattle.rules.proofs.times.Reads as times
@@ -37,6 +39,12 @@ totals-fit-determined a x y r s p q = p ∙ sym q
 
 pub pair-determined : Determined (pair.Learnt tt)
 pair-determined a x y r s p q = p ∙ sym q
+
+pub groups-in-range-determined : Determined (groups-in-range.Learnt tt)
+groups-in-range-determined a x y r s p q = p ∙ sym q
+
+pub has-group-determined : Determined (has-group.Learnt tt)
+has-group-determined a x y r s p q = p ∙ sym q
 
 pub all-or-none-determined : Determined (all-or-none.Learnt tt)
 all-or-none-determined a x y r s p q = p ∙ sym q

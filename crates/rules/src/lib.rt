@@ -2,7 +2,7 @@
 ghost use mathlib.Core.Path.{_≡_};
 ghost use Rattle.basics.specs.Choice.{within};
 ghost use Rattle.table.specs.Faults.{_then_};
-ghost use Rattle.table.specs.Rules.{timesInRange, timesInOrder, timesFault, allOrNone, mayFollow, alphaFault, isUnused, usedInRange, pairInRange, totalsFit, pairFault, askedFault};
+ghost use Rattle.table.specs.Rules.{timesInRange, timesInOrder, timesFault, groupsInRange, hasGroup, allOrNone, mayFollow, alphaFault, isUnused, usedInRange, pairInRange, totalsFit, pairFault, askedFault};
 use table::Checked;
 use table::Fault;
 use table::Level;
@@ -70,6 +70,30 @@ pub fn times(place: u32, period: u32, run: u32, deadline: u32) -> Checked
         });
     }
     Checked::Fine
+}
+
+// 4, of the groups of the resources.
+pub fn groups_in_range(groups: [u32; Table::MAX_RESOURCES]) -> bool
+    ensures { λ r. ⌜ r ≡ groupsInRange groups ⌝ }
+{
+    for k in 0..Table::MAX_RESOURCES {
+        if Table::MAX_GROUP < groups[k] {
+            return false;
+        }
+    }
+    true
+}
+
+// Whether any resource has a group.
+pub fn has_group(groups: [u32; Table::MAX_RESOURCES]) -> bool
+    ensures { λ r. ⌜ r ≡ hasGroup groups ⌝ }
+{
+    for k in 0..Table::MAX_RESOURCES {
+        if 0 < groups[k] {
+            return true;
+        }
+    }
+    false
 }
 
 // 17: so many of n tasks have an alpha, all or none of them.
