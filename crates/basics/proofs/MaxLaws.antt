@@ -1,12 +1,16 @@
 -- The laws of the largest value over the indices below n.
 -- Assumes nothing.
 use Prim.Native.Nat.{ℕ, zero, suc, _+_, _≤_, _<_, max}
-use mathlib.Core.Path.{_≡_}
-use native.Mathlib.Nat.{le-refl, le-trans}
+use mathlib.Core.Path.{_≡_, refl, ap₂}
+use native.Mathlib.Nat.{le-refl, le-trans, le-antisymm}
 use native.Mathlib.Numerals.{add-one}
 use native.Mathlib.Decide.{ℕ-discrete}
 use native.Mathlib.Omega.{arith}
+use borrow.Author.Tests.{eq-eqb}
+use lib.Dec.{eqb}
+use Rattle.basics.specs.Choice.{only}
 use Rattle.basics.specs.Over.{maxTo}
+use Rattle.basics.proofs.ChoiceLaws.{only-below}
 
 pub max-more : (i : ℕ) (g : ℕ → ℕ) → maxTo (i + 1) g ≡ max (maxTo i g) (g i)
 unfolding maxTo
@@ -39,3 +43,14 @@ max-wider m n g h l le = le-trans (max-le m g h le) (max-rises m n h l)
 
 pub max-part : (n k : ℕ) (g : ℕ → ℕ) → k < n → g k ≤ maxTo n g
 max-part n k g h = omega (arith, max-more k g, max-rises (k + 1) n g (omega arith))
+
+pub max-eq : (n : ℕ) (g h : ℕ → ℕ) → ((k : ℕ) → k < n → g k ≡ h k) → maxTo n g ≡ maxTo n h
+unfolding maxTo
+max-eq zero g h eq = refl
+max-eq (suc n) g h eq = ap₂ max (max-eq n g h (λ k l. eq k (omega arith))) (eq n (le-refl (suc n)))
+
+-- one value alone
+pub max-single : (n a x : ℕ) → a < n → maxTo n (λ k. only (eqb a k) x) ≡ x
+max-single n a x h =
+    let e : only (eqb a a) x ≡ x = rw (eq-eqb a a refl) in
+    le-antisymm (max-bound n x _ (λ k l. only-below (eqb a k) x)) (omega (arith, max-part n a (λ k. only (eqb a k) x) h))

@@ -7,8 +7,9 @@ use native.Mathlib.Nat.{le-refl, le-trans, zero-add, not-suc-le-zero}
 use native.Mathlib.Numerals.{add-one}
 use native.Mathlib.Decide.{ℕ-discrete}
 use native.Mathlib.Omega.{arith}
-use borrow.Author.Tests.{lt-ltb}
-use lib.Dec.{ltb}
+use borrow.Author.Tests.{lt-ltb, eq-eqb, ne-eqb}
+use lib.Dec.{ltb, eqb}
+use Rattle.basics.specs.Choice.{only}
 use Rattle.basics.specs.Over.{sumTo}
 
 pub sum-none : (g : ℕ → ℕ) → 0 ≡ sumTo 0 g
@@ -90,6 +91,31 @@ sum-found (suc n) g h = go (ℕ-discrete (g n) 0) (λ s. sum-found n g s)
     go : Dec (g n ≡ 0) → (1 ≤ sumTo n g → (k : ℕ) × (k < n) × (1 ≤ g k)) → (k : ℕ) × (k < suc n) × (1 ≤ g k)
     go (yes e) ih = let f = ih (omega arith) in (f .0, omega (arith, f .1), f .2)
     go (no d) ih = (n, le-refl (suc n), omega arith)
+
+-- one value alone
+pub sum-single : (n a x : ℕ) → a < n → sumTo n (λ k. only (eqb a k) x) ≡ x
+unfolding sumTo
+sum-single zero a x h = absurd (not-suc-le-zero h)
+sum-single (suc n) a x h = go (ℕ-discrete a n) (λ l. sum-single n a x l)
+  where
+    before : a ≡ n → sumTo n (λ k. only (eqb a k) x) ≡ 0
+    before e = omega (arith, sum-bound n 0 (λ k. only (eqb a k) x) (λ k l. rw (ne-eqb a k (λ q. omega arith)) (le-refl 0)))
+
+    go : Dec (a ≡ n) → (a < n → sumTo n (λ k. only (eqb a k) x) ≡ x) → sumTo n (λ k. only (eqb a k) x) + only (eqb a n) x ≡ x
+    go (yes e) ih = rw (eq-eqb a n e) (omega (arith, before e))
+    go (no d) ih = rw (ne-eqb a n d) (omega (arith, ih (omega arith)))
+
+-- values put into slots, each into one: all slots together have the sum
+pub sum-slots : (m n : ℕ) (s x : ℕ → ℕ) → ((j : ℕ) → j < n → s j < m) → sumTo m (λ k. sumTo n (λ j. only (eqb (s j) k) (x j))) ≡ sumTo n x
+unfolding sumTo
+sum-slots m zero s x h = omega (arith, sum-bound m 0 (λ k. 0) (λ k l. le-refl 0))
+sum-slots m (suc n) s x h =
+    omega (
+      arith,
+      sum-add m (λ k. sumTo n (λ j. only (eqb (s j) k) (x j))) (λ k. only (eqb (s n) k) (x n)),
+      sum-slots m n s x (λ j l. h j (omega arith)),
+      sum-single m (s n) (x n) (h n (le-refl (suc n))),
+    )
 
 -- the first term apart; and a factor
 pub sum-first : (n : ℕ) (g : ℕ → ℕ) → sumTo (suc n) g ≡ g 0 + sumTo n (λ j. g (suc j))

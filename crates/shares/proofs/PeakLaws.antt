@@ -2,24 +2,24 @@
 -- Assumes nothing.
 use Prim.Native.Nat.{ℕ, _+_, _*_, _≤_, _<_, max}
 use mathlib.Core.Path.{_≡_, ap, _∙_}
-use native.Mathlib.Nat.{le-trans, mul-le-mul}
+use native.Mathlib.Nat.{le-refl, le-trans, mul-le-mul}
 use native.Mathlib.Omega.{arith}
 use borrow.Author.Tests.{lt-ltb}
 use lib.ListN.{replicate, getD-replicate}
+use Rattle.basics.specs.Choice.{only}
 use Rattle.basics.specs.Over.{sumTo}
 use Rattle.basics.proofs.ChoiceLaws.{only-below}
-use Rattle.basics.proofs.SumLaws.{sum-eq, sum-bound}
+use Rattle.basics.proofs.SumLaws.{sum-le, sum-eq, sum-scale}
 use Rattle.basics.proofs.MaxLaws.{max-more, max-bound}
 use Rattle.table.specs.declared.Table.{Table}
-use Rattle.table.specs.Limits.{maxResources, maxTime, maxCount}
+use Rattle.table.specs.Limits.{maxResources, maxTime}
 use Rattle.table.specs.At.{taskAt, pairAt}
-use Rattle.table.specs.Accepted.{Accepted}
-use Rattle.table.proofs.RuleLaws.{pair-bounds}
 use Rattle.theory.specs.View.{level, resource, isAbove, largestBelow, uses}
 use Rattle.theory.specs.Demand.{DB}
 use Rattle.theory.proofs.PassLaws.{largest-none, where-used}
 use Rattle.rounds.specs.Outcome.{maxWait}
 use Rattle.shares.specs.declared.Peaks.{Peaks}
+use Rattle.theory.specs.Groups.{InBounds}
 use Rattle.theory.specs.Tables.{viewOf}
 use Rattle.shares.specs.Pass.{waitAt, RaisedBy, PeaksTo}
 
@@ -40,20 +40,24 @@ wait-is t i m is =
     ap (λ (x : ℕ). v .N (level i) (resource k) * x) (is k h)
     ∙ where-used (v .N (level i) (resource k)) (largestBelow v (level i) (λ l. v .c l (resource k))))
 
--- ---- of an accepted table DB is no more than it may be
+-- ---- of a table in bounds DB is no more than it may be: its task asks for its locks so often, for all of them together, and waits for each no longer than the longest time
 
-module _ (t : Table) (i : ℕ) (a : Accepted t) (h : i < t .n) where
+module _ (t : Table) (i : ℕ) (a : InBounds t) (h : i < t .n) where
   longest-time : (k : ℕ) → k < maxResources → largestBelow (viewOf t) (level i) (λ l. viewOf t .c l (resource k)) ≤ maxTime
   longest-time k q =
       max-bound (t .n) maxTime _
-      (λ l p.
-      let b = pair-bounds (pairAt t l k) (a .task l p .pair k q) in
-      omega (arith, only-below (isAbove (level i) (level l)) (pairAt t l k .longest), b .longest-total, b .total-most))
+      (λ l p. omega (arith, only-below (isAbove (level i) (level l)) (pairAt t l k .longest), a .task l p .longest k q))
 
   pub wait-most : DB (viewOf t) (level i) ≤ maxWait
   unfolding DB
   wait-most =
-      sum-bound maxResources (maxCount * maxTime) _
-      (λ k q.
-      le-trans (only-below (uses (viewOf t) (level i) (resource k)) _)
-      (mul-le-mul (pair-bounds (pairAt t i k) (a .task i h .pair k q) .requests-most) (longest-time k q)))
+      let N : ℕ → ℕ = λ k. pairAt t i k .requests in
+      omega (
+        arith,
+        sum-le maxResources
+        (λ k. only (uses (viewOf t) (level i) (resource k)) (N k * largestBelow (viewOf t) (level i) (λ l. viewOf t .c l (resource k))))
+        (λ k. maxTime * N k)
+        (λ k q. le-trans (only-below (uses (viewOf t) (level i) (resource k)) _) (le-trans (mul-le-mul (le-refl (N k)) (longest-time k q)) (omega arith))),
+        sum-scale maxResources maxTime N,
+        a .task i h .requests,
+      )

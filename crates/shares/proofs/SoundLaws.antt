@@ -1,4 +1,4 @@
--- The shares of an accepted table are sound, since what counts of a task is at most its C.
+-- The shares of a table in bounds are sound, since what counts of a task is at most its C.
 -- Assumes nothing.
 use Prim.Native.Nat.{ℕ, _≤_, _<_}
 use mathlib.Core.Path.{_≡_, refl, _∙_}
@@ -14,14 +14,11 @@ use Rattle.basics.proofs.SumLaws.{sum-le}
 use Rattle.basics.proofs.RowLaws.{row-at}
 use Rattle.table.specs.declared.Table.{Table}
 use Rattle.table.specs.Limits.{maxTasks, maxResources}
-use Rattle.table.specs.declared.Checked.the-variants.{Fine}
 use Rattle.table.specs.At.{taskAt, totalOf}
-use Rattle.table.specs.Rules.{tableFault}
-use Rattle.table.proofs.Acceptance.{fine-accepted}
-use Rattle.table.specs.Accepted.{GoodTask, Accepted}
 use Rattle.theory.specs.View.{level, resource, isAbove, uses, ceiling}
 use Rattle.theory.specs.Demand.{sharedCT, otherCT, highCT}
 use Rattle.rounds.specs.declared.Share.{Share}
+use Rattle.theory.specs.Groups.{TaskInBounds, InBounds}
 use Rattle.theory.specs.Tables.{viewOf}
 use Rattle.rounds.specs.Outcome.{Sound, SoundShare, SoundShares}
 use Rattle.rounds.specs.Shares.{noShare}
@@ -33,7 +30,7 @@ pick-le : (b : Bool) (x y n : ℕ) → x ≤ n → y ≤ n → pick b x y ≤ n
 pick-le true x y n h k = h
 pick-le false x y n h k = k
 
-module _ (t : Table) (i l : ℕ) (g : GoodTask (taskAt t l)) where
+module _ (t : Table) (i l : ℕ) (g : TaskInBounds (taskAt t l)) where
   marked-run : (p : ℕ → Bool) → sumTo maxResources (λ k. only (p k) (totalOf (taskAt t l) k)) ≤ taskAt t l .run
   marked-run p = le-trans (sum-le maxResources _ _ (λ k _. only-below (p k) (totalOf (taskAt t l) k))) (g .totals)
 
@@ -64,11 +61,8 @@ module _ (t : Table) (i l : ℕ) (g : GoodTask (taskAt t l)) where
         two = units-sound _ _ _ _ (s .period) (s .deadline) (s .two) two-run;
       }
 
--- the shares of a task of an accepted table
-module _ (t : Table) (i : ℕ) (fine : tableFault t ≡ Fine) (h : i < t .n) where
-  abbrev a : Accepted t
-  a = fine-accepted t fine
-
+-- the shares of a task of it
+module _ (t : Table) (i : ℕ) (a : InBounds t) (h : i < t .n) where
   pub shares-there : sharesOf t i ≡ tableShares (viewOf t) (level i)
   unfolding sharesOf
   shares-there = rw (lt-ltb i (t .n) h, le-leb (t .n) maxTasks (a .tasks-most))

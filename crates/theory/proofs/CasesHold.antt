@@ -6,10 +6,11 @@ use Rattle.theory.specs.Work.{jobs, uncapped, workload, ceilDiv}
 use Rattle.theory.specs.View.{ceiling}
 use Rattle.theory.specs.Demand.{sharedCT, otherCT, allCT, highCT, DB, S, O, F, L, demandWith}
 use Rattle.theory.specs.Rounds.{countedFrom}
+use Rattle.theory.specs.Merge.{slotOf, mergedPair}
 use Rattle.theory.specs.Cases.{four, CasesHold}
 
 pub cases-hold : CasesHold
-unfolding four sumTo maxTo firstTo jobs uncapped workload ceilDiv ceiling sharedCT otherCT allCT highCT DB S O F L demandWith countedFrom
+unfolding four sumTo maxTo firstTo jobs uncapped workload ceilDiv ceiling sharedCT otherCT allCT highCT DB S O F L demandWith countedFrom slotOf mergedPair
 cases-hold =
     record {
       a-third = refl;
@@ -27,4 +28,8 @@ cases-hold =
       runs-out = refl;
       passes = refl;
       none-allowed = refl;
+      together = refl;
+      by-itself = refl;
+      at-the-other = refl;
+      all-sixteen = refl;
     }

@@ -1,20 +1,22 @@
--- Computed: the paper's point on the quotient, a demand that tells the terms from the easy slips, and its rounds under an allowance. With only case A, O or L dropped, a ceiling equal to i
+-- Computed: the paper's point on the quotient, a demand that tells the terms from the easy slips, its rounds under an allowance, and merged pairs. With only case A, O or L dropped, a ceiling equal to i
 -- taken into L, or a quotient rounded down would not be seen.
 use Prim.Native.Nat.{ℕ, pred}
 use mathlib.Core.Path.{_≡_}
 use mathlib.Core.List.{List, [], _∷_}
-use lib.ListN.{getD}
+use lib.ListN.{getD, replicate}
 use Rattle.table.specs.declared.Level.{Level}
 use Rattle.table.specs.declared.Resource.{Resource}
 use Rattle.table.specs.declared.Pair.{Pair}
+use Rattle.table.specs.declared.Task.{Task}
 use Rattle.table.specs.Empty.{unusedPair}
-use Rattle.table.specs.At.{aPair}
+use Rattle.table.specs.At.{aPair, aTask}
 use Rattle.theory.specs.declared.Verdict.the-variants.{Meets, Misses, Open}
 use Rattle.theory.specs.declared.Counted.{Counted}
 use Rattle.theory.specs.Work.{workload, quotient}
 use Rattle.theory.specs.View.{View, level}
 use Rattle.theory.specs.Demand.{DB, S, O, F, L, demandOf}
 use Rattle.theory.specs.Rounds.{countedFrom}
+use Rattle.theory.specs.Merge.{mergedPair}
 
 -- Two processors and four tasks, T and D 100 each. Locks: 1 of tasks 1 and 4; 2 of tasks 3 and 4, so that its ceiling is 3; 3 of tasks 2 and 3
 abbrev rows : List (List Pair)
@@ -40,6 +42,13 @@ four =
       c = λ l k. pairs l k .longest;
       CT = λ l k. pairs l k .total;
     }
+
+-- three locks, of which the first and the third are of group 2, and what a task asks of them; the second has no group
+abbrev second : List ℕ
+second = 2 ∷ 0 ∷ 2 ∷ []
+
+abbrev holder : Task
+holder = aTask 10_000 200 10_000 (aPair 2 30 50 ∷ aPair 1 7 7 ∷ aPair 3 20 45 ∷ [])
 
 -- the rounds of task 3, so many allowed, from its C on
 abbrev third : ℕ → ℕ → Counted
@@ -69,3 +78,9 @@ pub record CasesHold : Type 0 where
   pub runs-out : third 100 1 ≡ record { verdict = Open; rounds = 1 }
   pub passes : third 55 1 ≡ record { verdict = Misses; rounds = 1 }
   pub none-allowed : third 100 0 ≡ record { verdict = Open; rounds = 0 }
+  -- request 9/12: N and CT are summed, c is the largest, at the group's first; at its other is nothing; lock 2 is by itself, though the group has its number
+  pub together : mergedPair second holder 0 ≡ aPair 5 30 95
+  pub by-itself : mergedPair second holder 1 ≡ aPair 1 7 7
+  pub at-the-other : mergedPair second holder 2 ≡ unusedPair
+  -- "the merged N may reach 16,000"
+  pub all-sixteen : mergedPair (replicate 16 16) (aTask 10_000_000 10_000_000 10_000_000 (replicate 16 (aPair 1_000 1_000 625_000))) 0 ≡ aPair 16_000 1_000 10_000_000

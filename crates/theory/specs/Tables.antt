@@ -1,4 +1,4 @@
--- A table as the analysis reads it, and the verdict on a task of it with its rounds.
+-- A table as the analysis reads it, with each group as one resource, and the verdict on a task of it with its rounds.
 use Prim.Native.Nat.{ℕ, pred}
 use Rattle.table.specs.declared.Level.{Level}
 use Rattle.table.specs.declared.Table.{Table}
@@ -7,7 +7,9 @@ use Rattle.theory.specs.declared.Counted.{Counted}
 use Rattle.theory.specs.View.{View}
 use Rattle.theory.specs.Demand.{demandOf}
 use Rattle.theory.specs.Rounds.{countedFrom}
+use Rattle.theory.specs.Merge.{merged}
 
+-- by its pairs as they stand
 abbrev pub viewOf : Table → View
 viewOf t =
     record {
@@ -21,6 +23,14 @@ viewOf t =
       CT = λ i k. pairAt t (pred (i .0)) (pred (k .0)) .total;
     }
 
--- the verdict on task i and its rounds, so many of them allowed: the rounds start at C
-unfoldable pub countedIn : Table → ℕ → Level → Counted
-countedIn t allowance i = countedFrom (demandOf (viewOf t) i) (viewOf t .D i) allowance (viewOf t .C i)
+-- by the merged ones (request 9/12): this is what the demand, the rounds and the wait read
+abbrev pub mergedView : Table → View
+mergedView t = viewOf (merged t)
+
+-- the verdict on task i of a view and its rounds, so many of them allowed: the rounds start at C
+unfoldable pub countedBy : View → ℕ → Level → Counted
+countedBy v allowance i = countedFrom (demandOf v i) (v .D i) allowance (v .C i)
+
+-- and of a table
+abbrev pub countedIn : Table → ℕ → Level → Counted
+countedIn t allowance i = countedBy (mergedView t) allowance i
