@@ -55,9 +55,9 @@ module _ (t : Table) (i : ℕ) (a : InBounds t) (h : i < t .n) where
       omega (
         arith,
         sum-le maxResources
-        (λ k. only (uses (viewOf t) (level i) (resource k)) (N k * largestBelow (viewOf t) (level i) (λ l. viewOf t .c l (resource k))))
-        (λ k. maxTime * N k)
-        (λ k q. le-trans (only-below (uses (viewOf t) (level i) (resource k)) _) (le-trans (mul-le-mul (le-refl (N k)) (longest-time k q)) (omega arith))),
+            (λ k. only (uses (viewOf t) (level i) (resource k)) (N k * largestBelow (viewOf t) (level i) (λ l. viewOf t .c l (resource k))))
+            (λ k. maxTime * N k)
+            (λ k q. le-trans (only-below (uses (viewOf t) (level i) (resource k)) _) (le-trans (mul-le-mul (le-refl (N k)) (longest-time k q)) (omega arith))),
         sum-scale maxResources maxTime N,
         a .task i h .requests,
       )

@@ -30,7 +30,7 @@ use Rattle.table.specs.Accepted.{GoodTask, Accepted}
 use Rattle.table.proofs.Acceptance.{fine-accepted}
 use Rattle.table.proofs.GroupLaws.{no-group-is}
 use Rattle.table.proofs.RuleLaws.{pair-bounds}
-use Rattle.theory.specs.Merge.{slotOf, partAt, mergedPair, mergedTask, merged}
+use Rattle.theory.specs.Merge.{slotOf, partAt, mergedPair, mergedTask, mergedTable, merged}
 use Rattle.theory.specs.Groups.{memberOf, groupPair, MergedPairs, MergedAgrees, maxRequests, TaskInBounds, InBounds}
 
 -- ---- where the figures of a resource stand
@@ -39,7 +39,7 @@ module _ (g : List ℕ) where
   abbrev G : ℕ → ℕ
   G j = getD g j 0
 
-  slot-alone : (j : ℕ) → G j ≡ 0 → slotOf g j ≡ j
+  pub slot-alone : (j : ℕ) → G j ≡ 0 → slotOf g j ≡ j
   unfolding slotOf
   slot-alone j e = rw (eq-eqb (G j) 0 e)
 
@@ -54,6 +54,14 @@ module _ (g : List ℕ) where
       go : Dec (G j ≡ 0) → slotOf g j < maxResources
       go (yes e) = rw (eq-eqb (G j) 0 e) h
       go (no d) = rw (ne-eqb (G j) 0 d) (first-below maxResources j (λ k. eqb (G k) (G j)) h (eq-eqb (G j) (G j) refl))
+
+  -- the first resource of a group
+  pub slot-found : (j k : ℕ) → (G j ≡ 0 → ⊥) → k < maxResources → G k ≡ G j → ((i : ℕ) → i < k → G i ≡ G j → ⊥) → slotOf g j ≡ k
+  unfolding slotOf
+  slot-found j k d h e before =
+      rw (ne-eqb (G j) 0 d)
+      (first-by maxResources (λ i. eqb (G i) (G j)) k
+      (record { upto = omega arith; clear = λ i m. ne-eqb (G i) (G j) (before i m); found = λ _. eq-eqb (G k) (G j) e }))
 
   -- the group of the resource there is its own
   slot-same : (j : ℕ) → j < maxResources → G (slotOf g j) ≡ G j
@@ -73,14 +81,10 @@ module _ (g : List ℕ) where
 
   -- at that of the first of a group: those of the group
   slot-first : (j k : ℕ) → j < maxResources → k < maxResources → 1 ≤ G k → ((i : ℕ) → i < k → G i ≡ G k → ⊥) → eqb (slotOf g j) k ≡ eqb (G j) (G k)
-  unfolding slotOf
   slot-first j k h l some before = go (ℕ-discrete (G j) (G k))
     where
       is : G j ≡ G k → slotOf g j ≡ k
-      is e =
-          rw (ne-eqb (G j) 0 (λ z. omega arith))
-          (first-by maxResources (λ i. eqb (G i) (G j)) k
-          (record { upto = omega arith; clear = λ i m. ne-eqb (G i) (G j) (λ q. before i m (q ∙ e)); found = λ _. eq-eqb (G k) (G j) (sym e) }))
+      is e = slot-found j k (λ z. omega arith) l (sym e) (λ i m q. before i m (q ∙ e))
 
       go : Dec (G j ≡ G k) → eqb (slotOf g j) k ≡ eqb (G j) (G k)
       go (yes e) = eq-eqb _ _ (is e) ∙ sym (eq-eqb _ _ e)
@@ -152,14 +156,14 @@ module _ (t : Table) where
   none-merged z = rw (no-group-is t .1 z)
 
   pub merged-cpus : merged t .cpus ≡ t .cpus
-  unfolding merged
+  unfolding merged mergedTable
   merged-cpus = by-group (hasGroup (t .groups)) refl some (λ z e. ap (λ (t : Table). t .cpus) e)
     where
       some : hasGroup (t .groups) ≡ true → merged t .cpus ≡ t .cpus
       some e = rw e
 
   pub merged-n : merged t .n ≡ t .n
-  unfolding merged
+  unfolding merged mergedTable
   merged-n = by-group (hasGroup (t .groups)) refl some (λ z e. ap (λ (t : Table). t .n) e)
     where
       some : hasGroup (t .groups) ≡ true → merged t .n ≡ t .n
@@ -174,7 +178,7 @@ module _ (t : Table) where
     pub pairs : (k : ℕ) → k < maxResources → pairOf y k ≡ mergedPair (t .groups) x k
 
   pub merged-task : (i : ℕ) → i < t .n → t .n ≤ maxTasks → MergedTask (taskAt t i) (taskAt (merged t) i)
-  unfolding merged mergedTask
+  unfolding merged mergedTable mergedTask
   merged-task i h l = by-group (hasGroup (t .groups)) refl some (λ z e. rw e (none z))
     where
       none : NoGroup t → MergedTask (taskAt t i) (taskAt t i)

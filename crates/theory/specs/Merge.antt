@@ -33,14 +33,16 @@ mergedPair groups x k =
 unfoldable pub mergedTask : List ℕ → Task → Task
 mergedTask groups x = record { period = x .period; run = x .run; deadline = x .deadline; alpha = x .alpha; pairs = rowTo maxResources (mergedPair groups x) }
 
--- the merged pairs of a table, as a table that has no groups left. N of a merged pair can be 16,000: the check is never asked of it. A table without groups is read as it is
-unfoldable pub merged : Table → Table
-merged t =
-    pick (hasGroup (t .groups))
-    (record {
+-- the merged pairs of a table, as a table that has no groups left. N of a merged pair can be 16,000: the check is never asked of it
+unfoldable pub mergedTable : Table → Table
+mergedTable t =
+    record {
       cpus = t .cpus;
       n = t .n;
       groups = noGroups;
       tasks = rowTo maxTasks (λ i. pick (ltb i (t .n)) (mergedTask (t .groups) (taskAt t i)) emptyTask);
-    })
-    t
+    }
+
+-- what the analysis reads: of a table without groups, the table as it is
+unfoldable pub merged : Table → Table
+merged t = pick (hasGroup (t .groups)) (mergedTable t) t
