@@ -1,4 +1,4 @@
--- The rounds of a task of an accepted table: they come to an end and to the right verdict; and the answer of `bound` from them.
+-- The rounds of a task of a table in bounds, as the merged pairs of an accepted one are: they come to an end and to the right verdict; and the answer of `bound` from them.
 -- Assumes nothing.
 use Prim.Native.Nat.{ℕ, suc, _+_, _-_, _≤_, _<_}
 use mathlib.Core.Path.{_≡_, refl, sym, ap, _∙_}
@@ -9,14 +9,14 @@ use Rattle.table.specs.declared.Table.{Table}
 use Rattle.table.specs.declared.Checked.{Checked}
 use Rattle.table.specs.declared.Checked.the-variants.{Fine, Refused}
 use Rattle.table.specs.Rules.{tableFault}
-use Rattle.table.proofs.Acceptance.{fine-accepted}
 use Rattle.theory.specs.declared.Verdict.{Verdict}
 use Rattle.theory.specs.declared.Verdict.the-variants.{Open}
 use Rattle.theory.specs.declared.Counted.{Counted}
 use Rattle.theory.specs.View.{level}
 use Rattle.theory.specs.Demand.{Load, demandWith}
 use Rattle.theory.specs.Rounds.{countedFrom, Counts}
-use Rattle.theory.specs.Tables.{viewOf, countedIn}
+use Rattle.theory.specs.Groups.{InBounds}
+use Rattle.theory.specs.Tables.{viewOf, countedBy, countedIn}
 use Rattle.theory.proofs.LeastLaws.{Rises}
 use Rattle.theory.proofs.AllowanceLaws.{stays}
 use Rattle.theory.proofs.EndLaws.{counts-exists, Right, counted-right}
@@ -25,28 +25,26 @@ use Rattle.analysis.specs.declared.Answer.the-variants.{Known}
 use Rattle.analysis.specs.Answers.{boundFault, orAnswer, boundOf}
 use Rattle.analysis.proofs.RowLaws.{asked}
 
--- an accepted table has a processor, and no period of 0
-pub fine-runs : (t : Table) → tableFault t ≡ Fine → Runs (viewOf t)
-fine-runs t e =
-    let a = fine-accepted t e in
-    record { cpus = a .cpus-least; T = λ l h. let g = a .task l h .times in omega arith }
+-- it has a processor, and no period of 0
+pub bounds-runs : (t : Table) → InBounds t → Runs (viewOf t)
+bounds-runs t a = record { cpus = a .cpus-least; T = λ l h. let g = a .task l h .times in omega arith }
 
 -- by any workload that rises
-module _ (W : Load) (rising : NoMore W W) (t : Table) (i : ℕ) (e : tableFault t ≡ Fine) (h : i < t .n) where
+module _ (W : Load) (rising : NoMore W W) (t : Table) (i : ℕ) (a : InBounds t) (h : i < t .n) where
   abbrev f : ℕ → ℕ
   f = demandWith W (viewOf t) (level i)
 
   up : Rises f
-  up = demand-rises W rising (viewOf t) (fine-runs t e) (level i)
+  up = demand-rises W rising (viewOf t) (bounds-runs t a) (level i)
 
   pub rounds-end : (n : ℕ) × Counts f (viewOf t .D (level i)) (viewOf t .C (level i)) n × (n ≤ viewOf t .D (level i) - viewOf t .C (level i) + 1)
   rounds-end =
-      let g = fine-accepted t e .task i h .times in
+      let g = a .task i h .times in
       counts-exists f _ up (viewOf t .C (level i)) (omega arith) (demand-start W (viewOf t) (level i) _)
 
   pub rounds-right : (allowance : ℕ) → Right f (viewOf t .D (level i)) (countedFrom f (viewOf t .D (level i)) allowance (viewOf t .C (level i)) .verdict)
   rounds-right allowance =
-      let g = fine-accepted t e .task i h .times in
+      let g = a .task i h .times in
       counted-right f _ up allowance _ (omega arith) (omega arith) (demand-start W (viewOf t) (level i))
 
   -- the bound, or the miss, by computing k rounds
@@ -56,7 +54,7 @@ module _ (W : Load) (rising : NoMore W W) (t : Table) (i : ℕ) (e : tableFault 
 
 -- a verdict that is not open, from a small allowance to a larger one
 pub under-more : (t : Table) (i A B : ℕ) {r : Counted} → A ≤ B → countedIn t A (level i) ≡ r → (r .verdict ≡ Open → ⊥) → countedIn t B (level i) ≡ r
-unfolding countedIn
+unfolding countedBy
 under-more t i A B h e q = stays _ _ A B _ h (λ o. q (ap (λ (r : Counted). r .verdict) (sym e) ∙ o)) ∙ e
 
 -- `bound` answers the verdict on each task that there is, and its rounds

@@ -1,7 +1,9 @@
 -- Laws and theorems of the analysis' code.
 --   RowLaws      what is known where nothing is refused, how many records are written, and the row afterwards
---   ByRounds     the rounds of a task of an accepted table
+--   ReadLaws     what `merge` answers of a table
+--   ByRounds     the rounds of a task of a table in bounds
 --   Determined   two answers are equal
 pub mod RowLaws
+pub mod ReadLaws
 pub mod ByRounds
 pub mod Determined

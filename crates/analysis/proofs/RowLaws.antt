@@ -8,8 +8,9 @@
 --     row-fine, row-refused     the row then; and where anything is said, it is as it was
 --     row-record                the record of each task that is written
 --     row-past, row-long        past them the row is as it was, and it is as long as it was
+--     read-asks, read-record    of the table that is read, where the one that was given is fine: it is in bounds and has that task, and the task's record is the given one's
 -- Assumes nothing.
-use mathlib.Core.Path.{_≡_, refl, _∙_}
+use mathlib.Core.Path.{_≡_, refl, sym, _∙_, ap, subst}
 use Prim.Native.Nat.{ℕ, _≤_, _<_, zero-le}
 use native.Mathlib.Nat.{not-suc-le-zero}
 use native.Mathlib.Omega.{arith}
@@ -28,11 +29,16 @@ use Rattle.table.specs.declared.Checked.{Checked}
 use Rattle.table.specs.declared.Checked.the-variants.{Fine, Refused}
 use Rattle.table.specs.Limits.{maxTasks}
 use Rattle.table.specs.Rules.{tableFault, askedFault}
+use Rattle.table.specs.Answers.{orTable}
 use Rattle.table.proofs.FirstLaws.{then-fine}
 use Rattle.table.proofs.RuleLaws.{unless-fine}
 use Rattle.table.proofs.Acceptance.{fine-accepted}
+use Rattle.theory.specs.Merge.{merged}
+use Rattle.theory.specs.Groups.{InBounds}
+use Rattle.theory.specs.Tables.{viewOf}
+use Rattle.theory.proofs.MergeLaws.{merged-n, merged-bounds}
 use Rattle.analysis.specs.declared.Record.{Record}
-use Rattle.analysis.specs.Answers.{allowanceFault, boundFault, analysisFault, orNone, recordCount, recordOf, analysed}
+use Rattle.analysis.specs.Answers.{allowanceFault, boundFault, analysisFault, orNone, recordCount, recordBy, recordOf, readTable, analysed}
 
 -- ---- one task
 
@@ -118,3 +124,15 @@ module _ (t : Table) (allowance : ℕ) (ys : List Record) where
   pub row-long : length (analysed t allowance ys) ≡ length ys
   unfolding analysed
   row-long = over-length (recordOf t allowance) _ ys (count-room t allowance (length ys))
+
+-- ---- the table that is read
+
+read-fine : (t : Table) → tableFault t ≡ Fine → readTable t ≡ merged t
+read-fine t e = ap (λ (a : Checked). orTable a (merged t) .table) e
+
+module _ (t : Table) {m : Table} (i : ℕ) (read : m ≡ readTable t) where
+  pub read-asks : (tableFault t ≡ Fine) × (i < t .n) → InBounds m × (i < m .n)
+  read-asks a = subst (λ (x : Table). InBounds x × (i < x .n)) (sym (read ∙ read-fine t (a .0))) (merged-bounds t (a .0), rw (merged-n t) (a .1))
+
+  pub read-record : (allowance : ℕ) → tableFault t ≡ Fine → recordBy (viewOf m) allowance i ≡ recordOf t allowance i
+  read-record allowance e = ap (λ (x : Table). recordBy (viewOf x) allowance i) (read ∙ read-fine t e)

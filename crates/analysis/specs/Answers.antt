@@ -12,9 +12,11 @@ use Rattle.table.specs.declared.Checked.{Checked}
 use Rattle.table.specs.declared.Checked.the-variants.{Fine, Refused}
 use Rattle.table.specs.Faults.{_then_, unless}
 use Rattle.table.specs.Rules.{tableFault, askedFault}
+use Rattle.table.specs.Answers.{orTable}
 use Rattle.theory.specs.declared.Verdict.the-variants.{Meets}
-use Rattle.theory.specs.View.{level}
-use Rattle.theory.specs.Tables.{countedIn}
+use Rattle.theory.specs.View.{View, level}
+use Rattle.theory.specs.Tables.{mergedView, countedBy, countedIn}
+use Rattle.theory.specs.Merge.{merged}
 use Rattle.analysis.specs.declared.Answer.{Answer}
 use Rattle.analysis.specs.declared.Answer.the-variants.{Known, Unknown}
 use Rattle.analysis.specs.declared.Record.{Record}
@@ -56,10 +58,18 @@ unfoldable pub recordCount : Table → ℕ → ℕ → ℕ
 recordCount t allowance room = orNone (analysisFault t allowance room) (t .n)
 
 -- "Each verdict record holds the task's number and its verdict", and its rounds: the allowance is "the same for each task by itself"
-unfoldable pub recordOf : Table → ℕ → ℕ → Record
-recordOf t allowance i =
-    let r = countedIn t allowance (level i) in
+unfoldable pub recordBy : View → ℕ → ℕ → Record
+recordBy v allowance i =
+    let r = countedBy v allowance (level i) in
     record { task = level i; verdict = r .verdict; rounds = r .rounds }
+
+-- of a table, by its merged pairs
+abbrev pub recordOf : Table → ℕ → ℕ → Record
+recordOf t allowance i = recordBy (mergedView t) allowance i
+
+-- the table that is read: of one that is refused, none
+abbrev pub readTable : Table → Table
+readTable t = orTable (tableFault t) (merged t) .table
 
 -- a record of no task: what a row's reader has past its end, and what a row may hold before
 abbrev pub noRecord : Record

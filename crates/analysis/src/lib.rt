@@ -1,13 +1,13 @@
 // The analysis of a table: the bound of one task, and the row of verdicts, each with its rounds.
 ghost use mathlib.Core.Path.{_≡_};
 ghost use Prim.Native.Nat.{_<_};
-ghost use Rattle.table.specs.declared.Checked.the-variants.{Fine};
-ghost use Rattle.table.specs.Faults.{at};
+ghost use Rattle.table.specs.Faults.{_then_, at};
 ghost use Rattle.table.specs.Limits.{maxTasks};
-ghost use Rattle.table.specs.Rules.{tableFault};
+ghost use Rattle.table.specs.Rules.{askedFault};
 ghost use Rattle.theory.specs.View.{level};
-ghost use Rattle.theory.specs.Tables.{countedIn};
-ghost use Rattle.analysis.specs.Answers.{allowanceFault, rowFault, boundFault, boundOf, analysisFault, recordCount, recordOf, analysed, FillsRow};
+ghost use Rattle.theory.specs.Groups.{InBounds};
+ghost use Rattle.theory.specs.Tables.{viewOf, countedBy};
+ghost use Rattle.analysis.specs.Answers.{allowanceFault, rowFault, boundOf, analysisFault, recordCount, recordBy, readTable, analysed, FillsRow};
 use rounds::Outcome;
 use table::Checked;
 use table::Fault;
@@ -36,15 +36,15 @@ pub struct Analysis {
     pub rows: [Record; Table::MAX_TASKS],
 }
 
-// The verdict on the task at slot i of a table that nothing is said against, and its rounds, so many of them allowed.
-fn counted_at(t: Table, allowance: u32, i: usize) -> Counted
-    requires { ⌜ (tableFault t ≡ Fine) × (i < t .n) ⌝ }
-    ensures { λ r. ⌜ r ≡ countedIn t allowance (level i) ⌝ }
+// The verdict on the task at slot i, by the merged pairs of a table that nothing is said against, and its rounds, so many of them allowed.
+fn counted_at(m: Table, allowance: u32, i: usize) -> Counted
+    requires { ⌜ InBounds m × (i < m .n) ⌝ }
+    ensures { λ r. ⌜ r ≡ countedBy (viewOf m) allowance (level i) ⌝ }
 {
-    let a = t.tasks[i];
-    let s = shares::shares_of(t, i);
+    let a = m.tasks[i];
+    let s = shares::shares_of(m, i);
     let Outcome::Of(x) = rounds::outcome_of(s, a.deadline, allowance) else {
-        // the shares of an accepted table are sound: this is never reached
+        // the shares of such a table are sound: this is never reached
         return Counted {
             verdict: Verdict::Misses,
             rounds: 0,
@@ -54,12 +54,12 @@ fn counted_at(t: Table, allowance: u32, i: usize) -> Counted
 }
 
 // The same, as a record of the row.
-fn record_at(t: Table, allowance: u32, i: usize) -> Record
-    requires { ⌜ (tableFault t ≡ Fine) × (i < t .n) ⌝ }
-    ensures { λ r. ⌜ r ≡ recordOf t allowance i ⌝ }
+fn record_at(m: Table, allowance: u32, i: usize) -> Record
+    requires { ⌜ InBounds m × (i < m .n) ⌝ }
+    ensures { λ r. ⌜ r ≡ recordBy (viewOf m) allowance i ⌝ }
 {
     let number = (i + 1) as u32;
-    let x = counted_at(t, allowance, i);
+    let x = counted_at(m, allowance, i);
     let verdict = x.verdict;
     Record {
         task: Level(number),
@@ -94,12 +94,11 @@ fn check_row(n: usize, room: usize) -> Checked
     Checked::Fine
 }
 
-// What is said against a table, a task of it and an allowance.
-fn judge_task(t: Table, task: Level, allowance: u32) -> Checked
-    ensures { λ r. ⌜ r ≡ boundFault t task allowance ⌝ }
+// What is said against a table, by itself and of so many tasks, a task of it and an allowance.
+fn judge_task(own: Checked, n: usize, task: Level, allowance: u32) -> Checked
+    ensures { λ r. ⌜ r ≡ (own then askedFault n task then allowanceFault allowance) ⌝ }
 {
-    let own = checking::check(t);
-    let asked = rules::asked(t.n, task);
+    let asked = rules::asked(n, task);
     let allowed = check_allowance(allowance);
     rules::first_of(own, rules::first_of(asked, allowed))
 }
@@ -108,21 +107,30 @@ fn judge_task(t: Table, task: Level, allowance: u32) -> Checked
 pub fn bound(t: Table, task: Level, allowance: u32) -> Answer
     ensures { λ r. ⌜ r ≡ boundOf t task allowance ⌝ }
 {
-    if let Checked::Refused(r) = judge_task(t, task, allowance) {
+    let read = merging::merge(t);
+    let own = read.answer;
+    if let Checked::Refused(r) = judge_task(own, t.n, task, allowance) {
         return Answer::Unknown(r);
     }
+    let m = read.table;
     let number = task.0 as usize;
-    Answer::Known(counted_at(t, allowance, number - 1))
+    Answer::Known(counted_at(m, allowance, number - 1))
 }
 
-// What is said against a table, an allowance and a row of so many records.
+// What is said against a table, by itself and of so many tasks, an allowance and a row of so many records.
+fn judged(own: Checked, n: usize, allowance: u32, room: usize) -> Checked
+    ensures { λ r. ⌜ r ≡ (own then allowanceFault allowance then rowFault n room) ⌝ }
+{
+    let allowed = check_allowance(allowance);
+    let fits = check_row(n, room);
+    rules::first_of(own, rules::first_of(allowed, fits))
+}
+
 fn judge(t: Table, allowance: u32, room: usize) -> Checked
     ensures { λ r. ⌜ r ≡ analysisFault t allowance room ⌝ }
 {
     let own = checking::check(t);
-    let allowed = check_allowance(allowance);
-    let fits = check_row(t.n, room);
-    rules::first_of(own, rules::first_of(allowed, fits))
+    judged(own, t.n, allowance, room)
 }
 
 // How many records are to be written: none where anything is said against it.
@@ -135,15 +143,24 @@ fn todo(t: Table, allowance: u32, room: usize) -> usize
     t.n
 }
 
+// The table that is read: of one that is refused, none.
+fn table_read(t: Table) -> Table
+    ensures { λ r. ⌜ r ≡ readTable t ⌝ }
+{
+    let read = merging::merge(t);
+    read.table
+}
+
 // The verdicts on all tasks and their rounds, so many of them allowed for each, into the caller's row: decided above, stored here one by one.
 pub fn analyse(t: Table, allowance: u32, row: &mut [Record]) -> Checked
     ensures { λ r. ⌜ FillsRow t allowance (now (row .entry)) r (now (row .exit)) ⌝ }
 {
     let room = row.len();
     let n = todo(t, allowance, room);
+    let m = table_read(t);
     let mut i: usize = 0;
     while i < n {
-        row[i] = record_at(t, allowance, i);
+        row[i] = record_at(m, allowance, i);
         i += 1;
     }
     judge(t, allowance, room)
@@ -153,15 +170,18 @@ pub fn analyse(t: Table, allowance: u32, row: &mut [Record]) -> Checked
 pub fn analyse_all(t: Table, allowance: u32, rows: [Record; Table::MAX_TASKS]) -> Analysis
     ensures { λ r. ⌜ (r .answer ≡ analysisFault t allowance maxTasks) × (r .rows ≡ analysed t allowance rows) ⌝ }
 {
-    let answer = judge(t, allowance, Table::MAX_TASKS);
+    let read = merging::merge(t);
+    let own = read.answer;
+    let answer = judged(own, t.n, allowance, Table::MAX_TASKS);
     let Checked::Fine = answer else {
         return Analysis { answer, rows };
     };
+    let m = read.table;
     let mut filled = rows;
-    let n = t.n;
+    let n = m.n;
     let mut k: usize = 0;
     while k < n {
-        filled[k] = record_at(t, allowance, k);
+        filled[k] = record_at(m, allowance, k);
         k += 1;
     }
     Analysis {

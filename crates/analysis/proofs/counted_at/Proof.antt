@@ -3,34 +3,29 @@ use Prim.Native.Nat.{ℕ}
 use mathlib.Core.Path.{_≡_, ap, ap₂, _∙_}
 use native.Mathlib.Omega.{arith}
 use borrow.Author.Needs.{needs}
-use Rattle.table.specs.Accepted.{Accepted}
-use Rattle.table.proofs.Acceptance.{fine-accepted}
 use Rattle.theory.specs.View.{level}
 use Rattle.theory.specs.Rounds.{countedFrom}
 use Rattle.rounds.specs.declared.Shares.{Shares}
 use Rattle.rounds.specs.declared.Outcome.the-variants.{Of}
 use Rattle.rounds.specs.Outcome.{outcomeOf}
 use Rattle.rounds.proofs.SoundLaws.{sound-test}
-use Rattle.theory.specs.Tables.{viewOf, countedIn}
+use Rattle.theory.specs.Tables.{viewOf, countedBy}
 use Rattle.shares.proofs.SoundLaws.{reduced}
 use Rattle.shares.proofs.Reduce.{shares-demand}
 use Rattle.analysis.proofs.counted_at.Statement.{statement}
 use Rattle.analysis.proofs.counted_at.Tie as tie
 
-accepted : (c : tie.Start) → Accepted (c .args .t1)
-accepted c = fine-accepted _ (c .pre .0)
-
 mul-a : tie.Need-mul-a
-mul-a c = omega (arith, accepted c .tasks-most)
+mul-a c = omega (arith, c .pre .0 .tasks-most)
 
 element-copy-out-a : tie.Need-element-copy-out-a
-element-copy-out-a c = omega (arith, accepted c .tasks-most)
+element-copy-out-a c = omega (arith, c .pre .0 .tasks-most)
 
 -- the outcome over the shares is the table's
 outcome : (c : tie.After-outcome-of)
     → let a = c .before .before .before .args in
-    c .outcome-of .result ≡ Of (countedIn (a .t1) (a .allowance) (level (a .i)))
-unfolding countedIn outcomeOf
+    c .outcome-of .result ≡ Of (countedBy (viewOf (a .t1)) (a .allowance) (level (a .i)))
+unfolding countedBy outcomeOf
 outcome c =
     let b = c .before .before .before in
     let t = b .args .t1 in

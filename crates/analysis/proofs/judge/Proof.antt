@@ -1,7 +1,8 @@
--- `analysis::judge` meets its contract: the three checks, in the definition's order. Assumes nothing.
-use mathlib.Core.Path.{ap₂, _∙_}
+-- `analysis::judge` meets its contract: the table's own comes first. Assumes nothing.
+use mathlib.Core.Path.{ap, _∙_}
+use Rattle.table.specs.declared.Checked.{Checked}
 use Rattle.table.specs.Faults.{_then_}
-use Rattle.analysis.specs.Answers.{analysisFault}
+use Rattle.analysis.specs.Answers.{allowanceFault, rowFault, analysisFault}
 use borrow.Author.Needs.{needs}
 use Rattle.analysis.proofs.judge.Statement.{statement}
 use Rattle.analysis.proofs.judge.Tie as tie
@@ -9,11 +10,8 @@ use Rattle.analysis.proofs.judge.Tie as tie
 returns : tie.Need-returns
 unfolding analysisFault
 returns c =
-    let i = c .before in
-    let r = i .before in
-    let a = r .before in
-    c .first-of2 .ensures
-    ∙ ap₂ _then_ (a .before .check .ensures) (i .first-of .ensures ∙ ap₂ _then_ (a .check-allowance .ensures) (r .check-row .ensures))
+    let a = c .before .before .args in
+    c .judged .ensures ∙ ap (λ (own : Checked). own then allowanceFault (a .allowance) then rowFault (a .t .n) (a .room)) (c .before .check .ensures)
 
 pub judge-spec : {M : Type 1} → statement M
-judge-spec = tie.close (tie.spec (λ c κs. search needs) (λ c κs. search needs) (λ c κs. search needs) (λ c κs. search needs) (λ c κs. search needs) returns)
+judge-spec = tie.close (tie.spec (λ c κs. search needs) (λ c κs. search needs) returns)

@@ -2,16 +2,15 @@
 use native.Mathlib.Numerals.{add-one}
 use native.Mathlib.Omega.{arith}
 use borrow.Author.Needs.{needs}
-use Rattle.table.proofs.Acceptance.{fine-accepted}
-use Rattle.analysis.specs.Answers.{recordOf}
+use Rattle.analysis.specs.Answers.{recordBy}
 use Rattle.analysis.proofs.record_at.Statement.{statement}
 use Rattle.analysis.proofs.record_at.Tie as tie
 
 returns : tie.Need-returns
-unfolding recordOf
+unfolding recordBy
 returns c = rw (add-one, c .counted-at .ensures)
 
 pub record-at-spec : {M : Type 1} → statement M
 record-at-spec =
     tie.close
-    (tie.spec (λ c. search needs) (λ c. omega (arith, fine-accepted _ (c .pre .0) .tasks-most)) (λ c κs. search needs) returns)
+    (tie.spec (λ c. search needs) (λ c. omega (arith, c .pre .0 .tasks-most)) (λ c κs. search needs) returns)
