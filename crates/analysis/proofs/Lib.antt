@@ -1,9 +1,7 @@
 -- Laws and theorems of the analysis' code.
 --   RowLaws      what is known where nothing is refused, how many records are written, and the row afterwards
---   ReadLaws     what `merge` answers of a table
 --   ByRounds     the rounds of a task of a table in bounds
 --   Determined   two answers are equal
 pub mod RowLaws
-pub mod ReadLaws
 pub mod ByRounds
 pub mod Determined

@@ -1,12 +1,26 @@
--- Of a table whose first task has no alpha there are no waits, be it accepted or not.
+-- Of a table whose first task has no alpha there are no waits, be it accepted or not; and the waits by the merged pairs of an accepted one are its own.
 -- Assumes nothing.
-use mathlib.Core.Path.{_≡_, refl}
-use mathlib.Core.Bool.{false}
+use Prim.Native.Nat.{ℕ}
+use mathlib.Core.Path.{_≡_, refl, ap, _∙_}
+use mathlib.Core.Bool.{Bool, true, false}
+use borrow.Author.Tests.{ltb-true}
+use lib.Dec.{ltb}
+use Rattle.basics.specs.Choice.{pick}
+use Rattle.basics.proofs.RowLaws.{row-eq}
 use Rattle.table.specs.declared.Table.{Table}
 use Rattle.table.specs.declared.Checked.{Checked}
 use Rattle.table.specs.declared.Checked.the-variants.{Fine, Refused}
+use Rattle.table.specs.Limits.{maxTasks}
+use Rattle.table.specs.At.{alphaAt}
 use Rattle.table.specs.Rules.{hasAlpha, tableFault}
-use Rattle.waits.specs.Answers.{noWaits, waitsAfter, allWaits}
+use Rattle.table.proofs.Acceptance.{fine-accepted}
+use Rattle.theory.specs.View.{level}
+use Rattle.theory.specs.Tables.{mergedView}
+use Rattle.theory.specs.Merge.{merged}
+use Rattle.theory.proofs.MergeLaws.{merged-n, merged-task}
+use Rattle.waits.specs.Wait.{waitOf}
+use Rattle.waits.specs.Answers.{noWaits, slotWait, waitsOf, waitsAfter, allWaits}
+use Rattle.waits.specs.Kept.{slotWaitBy, waitsBy}
 
 pub none-all : (t : Table) → hasAlpha t 0 ≡ false → (allWaits t .given ≡ false) × (allWaits t .of ≡ noWaits)
 unfolding allWaits
@@ -15,3 +29,11 @@ none-all t e = go (tableFault t)
     go : (c : Checked) → (waitsAfter c t .given ≡ false) × (waitsAfter c t .of ≡ noWaits)
     go Fine = rw e (refl, refl)
     go (Refused r) = (refl, refl)
+
+pub waits-merged : (t : Table) → tableFault t ≡ Fine → waitsBy (merged t) ≡ waitsOf t
+waits-merged t e = row-eq maxTasks (slotWaitBy (merged t)) (slotWait t) (λ i _. ap (λ (n : ℕ). pick (ltb i n) (waitOf (mergedView t) (alphaAt (merged t) i) (level i)) 0) (merged-n t) ∙ go i (ltb i (t .n)) refl)
+  where
+    go : (i : ℕ) (b : Bool) → ltb i (t .n) ≡ b
+        → pick b (waitOf (mergedView t) (alphaAt (merged t) i) (level i)) 0 ≡ pick b (waitOf (mergedView t) (alphaAt t i) (level i)) 0
+    go i true h = ap (λ (A : ℕ). waitOf (mergedView t) A (level i)) (merged-task t i (ltb-true i (t .n) h) (fine-accepted t e .tasks-most) .alpha)
+    go i false h = refl

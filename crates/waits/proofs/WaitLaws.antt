@@ -3,7 +3,7 @@
 use Prim.Native.Nat.{ℕ, suc, _+_, _-_, _*_, _≤_, _<_}
 use mathlib.Core.Path.{_≡_, refl, sym, ap, _∙_}
 use mathlib.Core.List.{List, [], _++_}
-use native.Mathlib.Nat.{le-refl}
+use native.Mathlib.Nat.{le-refl, le-trans}
 use native.Mathlib.Omega.{arith}
 use borrow.Author.Tests.{lt-ltb, le-ltb}
 use lib.Dec.{leb}
@@ -11,20 +11,19 @@ use lib.ListN.{length, take, set, replicate}
 use Rattle.basics.specs.Choice.{pick, only}
 use Rattle.basics.specs.Over.{rowTo}
 use Rattle.basics.specs.Largest.{falling, sumOf, sumLargest}
-use Rattle.basics.proofs.SumLaws.{sum-eq}
+use Rattle.basics.proofs.SumLaws.{sum-eq, sum-part}
 use Rattle.basics.proofs.JoinLaws.{join-past, join-rest}
 use Rattle.basics.proofs.RowLaws.{back-none, back-more, back-all}
 use Rattle.basics.proofs.FallingLaws.{falling-length}
 use Rattle.table.specs.declared.Table.{Table}
 use Rattle.table.specs.Limits.{maxTasks, maxResources, maxAlpha}
 use Rattle.table.specs.At.{taskAt, alphaAt, pairAt}
-use Rattle.table.specs.Accepted.{Accepted}
-use Rattle.table.proofs.RuleLaws.{pair-bounds}
 use Rattle.theory.specs.View.{level, resource, uses}
+use Rattle.theory.specs.Groups.{InBounds}
 use Rattle.theory.specs.Tables.{viewOf}
 use Rattle.waits.specs.Wait.{othersBelow, waitOf}
-use Rattle.waits.specs.Answers.{noWaits, slotWait, waitsOf}
-use Rattle.waits.specs.Kept.{maxKept, keysOf, keysFrom, InLimits, KeptWith, othersKept, sumOthers, waitWith}
+use Rattle.waits.specs.Answers.{noWaits}
+use Rattle.waits.specs.Kept.{maxKept, keysOf, keysFrom, InLimits, KeptWith, othersKept, sumOthers, waitWith, slotWaitBy, waitsBy}
 use Rattle.waits.proofs.KeptLaws.{each-falling, kept-both}
 use Rattle.waits.proofs.OthersLaws.{others-falling, others-take}
 use Rattle.waits.proofs.LowerLaws.{others-below, few-below}
@@ -48,20 +47,20 @@ from-more t i n r kept exit h l was more =
 -- ---- the waits
 
 abbrev pub waitsFrom : Table → ℕ → List ℕ
-waitsFrom t i = rowTo maxTasks (λ l. pick (leb i l) (slotWait t l) 0)
+waitsFrom t i = rowTo maxTasks (λ l. pick (leb i l) (slotWaitBy t l) 0)
 
 pub waits-none : (t : Table) → noWaits ≡ waitsFrom t (t .n)
-waits-none t = back-none (slotWait t) 0 maxTasks (t .n) (λ l h. rw (le-ltb l (t .n) h))
+waits-none t = back-none (slotWaitBy t) 0 maxTasks (t .n) (λ l h. rw (le-ltb l (t .n) h))
 
-pub waits-all : (t : Table) (i : ℕ) → i ≡ 0 → waitsFrom t i ≡ waitsOf t
-waits-all t i e = ap (waitsFrom t) e ∙ back-all (slotWait t) 0 maxTasks
+pub waits-all : (t : Table) (i : ℕ) → i ≡ 0 → waitsFrom t i ≡ waitsBy t
+waits-all t i e = ap (waitsFrom t) e ∙ back-all (slotWaitBy t) 0 maxTasks
 
-module _ (t : Table) (a : Accepted t) where
+module _ (t : Table) (a : InBounds t) where
   pub in-limits : (i : ℕ) → i < t .n → InLimits (taskAt t i)
   in-limits i h =
       record {
-        requests = λ k q. pair-bounds (pairAt t i k) (a .task i h .pair k q) .requests-most;
-        longest = λ k q. let b = pair-bounds (pairAt t i k) (a .task i h .pair k q) in omega (arith, b .longest-total, b .total-most);
+        requests = λ k q. le-trans (sum-part maxResources k (λ k. pairAt t i k .requests) q) (a .task i h .requests);
+        longest = a .task i h .longest;
       }
 
   -- of those kept and of all, the A largest for another resource have one sum: at most 64 are summed, and at most 31 are left out
@@ -95,9 +94,9 @@ module _ (t : Table) (a : Accepted t) where
       → (waits : List ℕ) → waits ≡ waitsFrom t i → set waits (i - 1) w ≡ waitsFrom t (i - 1)
   waits-more i n kept h l was w e waits p =
       let s : i ≡ suc (i - 1) = omega arith in
-      let g : w ≡ slotWait t (i - 1) =
+      let g : w ≡ slotWaitBy t (i - 1) =
       e
       ∙ wait-is (i - 1) (alphaAt t (i - 1)) n kept (a .task (i - 1) (omega arith) .alpha-most) (rw (← s) was)
       ∙ sym (rw (lt-ltb (i - 1) (t .n) (omega arith)))
       in
-      (λ j. set ((p ∙ ap (waitsFrom t) s) j) (i - 1) (g j)) ∙ back-more (slotWait t) 0 maxTasks (i - 1) (omega (arith, a .tasks-most))
+      (λ j. set ((p ∙ ap (waitsFrom t) s) j) (i - 1) (g j)) ∙ back-more (slotWaitBy t) 0 maxTasks (i - 1) (omega (arith, a .tasks-most))

@@ -15,15 +15,15 @@ use Rattle.table.specs.At.{alphaAt}
 use Rattle.table.specs.Faults.{_then_}
 use Rattle.table.specs.Rules.{hasAlpha, tableFault, askedFault}
 use Rattle.theory.specs.View.{level}
-use Rattle.theory.specs.Tables.{viewOf}
+use Rattle.theory.specs.Tables.{mergedView}
 use Rattle.waits.specs.declared.Waiting.{Waiting}
 use Rattle.waits.specs.declared.Waiting.the-variants.{For, NoAlpha, Unknown}
 use Rattle.waits.specs.declared.Waits.{Waits}
 use Rattle.waits.specs.Wait.{waitOf}
 
--- the wait of task i, in microseconds, with its own alpha
+-- the wait of task i, in microseconds, with its own alpha, by the merged pairs: "the alpha column read[s] the merged pairs" (9/12)
 abbrev pub waitIn : Table → Level → ℕ
-waitIn t i = waitOf (viewOf t) (alphaAt t (pred (i .0))) i
+waitIn t i = waitOf (mergedView t) (alphaAt t (pred (i .0))) i
 
 -- ---- one task: the table's own refusals, then 10; then the wait, or that the table has no alpha. It is given "for all tasks or none", so that the first task tells
 

@@ -5,12 +5,16 @@ use mathlib.Core.List.{List, [], _∷_}
 use lib.Dec.{eqb, leb, ltb}
 use lib.ListN.{length, take}
 use Rattle.basics.specs.Choice.{pick, only}
-use Rattle.basics.specs.Over.{sumTo, joinTo}
+use Rattle.basics.specs.Over.{sumTo, joinTo, rowTo}
 use Rattle.basics.specs.Largest.{insertInto, sumOf, Descends}
 use Rattle.table.specs.declared.Task.{Task}
 use Rattle.table.specs.declared.Table.{Table}
-use Rattle.table.specs.Limits.{maxTasks, maxResources, maxTime, maxCount, maxAlpha}
-use Rattle.table.specs.At.{taskAt, pairOf}
+use Rattle.table.specs.Limits.{maxTasks, maxResources, maxTime, maxAlpha}
+use Rattle.table.specs.At.{taskAt, alphaAt, pairOf}
+use Rattle.theory.specs.View.{level}
+use Rattle.theory.specs.Groups.{maxRequests}
+use Rattle.theory.specs.Tables.{viewOf}
+use Rattle.waits.specs.Wait.{waitOf}
 
 -- how many are kept: as many as are summed, and one for each lower task
 abbrev pub maxKept : ℕ
@@ -37,7 +41,7 @@ keysFrom t i = joinTo (t .n) (λ l. pick (leb i l) (keysOf (taskAt t l)) [])
 
 -- what is asked of a task, so that its numbers and what it waits fit
 pub record InLimits (x : Task) : Type 0 where
-  pub requests : (k : ℕ) → k < maxResources → pairOf x k .requests ≤ maxCount
+  pub requests : (k : ℕ) → k < maxResources → pairOf x k .requests ≤ maxRequests
   pub longest : (k : ℕ) → k < maxResources → pairOf x k .longest ≤ maxTime
 
 -- ---- numbers that are kept
@@ -82,3 +86,11 @@ waitOn S A x k = waitFor S A (pairOf x k .requests) k
 
 abbrev pub waitWith : List ℕ → ℕ → Task → ℕ
 waitWith S A x = sumTo maxResources (waitOn S A x)
+
+-- ---- the waits of a table by its pairs as they stand: of the task at slot i, and of all, 0 past them
+
+abbrev pub slotWaitBy : Table → ℕ → ℕ
+slotWaitBy m i = pick (ltb i (m .n)) (waitOf (viewOf m) (alphaAt m i) (level i)) 0
+
+abbrev pub waitsBy : Table → List ℕ
+waitsBy m = rowTo maxTasks (slotWaitBy m)

@@ -26,7 +26,8 @@ pub struct Waits {
 pub fn wait(t: Table, task: Level) -> Waiting
     ensures { λ r. ⌜ r ≡ waitAnswer t task ⌝ }
 {
-    let own = checking::check(t);
+    let read = merging::merge(t);
+    let own = read.answer;
     let asked = rules::asked(t.n, task);
     if let Checked::Refused(r) = rules::first_of(own, asked) {
         return Waiting::Unknown(r);
@@ -35,7 +36,8 @@ pub fn wait(t: Table, task: Level) -> Waiting
     if first.alpha == 0 {
         return Waiting::NoAlpha;
     }
-    let all = longest::waits_of(t);
+    let m = read.table;
+    let all = longest::waits_of(m);
     let i = task.0 as usize - 1;
     Waiting::For(all[i])
 }
@@ -45,7 +47,8 @@ pub fn wait_all(t: Table) -> Waits
     ensures { λ r. ⌜ r ≡ allWaits t ⌝ }
 {
     let none = [0u64; Table::MAX_TASKS];
-    let answer = checking::check(t);
+    let read = merging::merge(t);
+    let answer = read.answer;
     let Checked::Fine = answer else {
         return Waits {
             answer,
@@ -61,7 +64,8 @@ pub fn wait_all(t: Table) -> Waits
             of: none,
         };
     }
-    let of = longest::waits_of(t);
+    let m = read.table;
+    let of = longest::waits_of(m);
     Waits {
         answer,
         given: true,

@@ -5,11 +5,9 @@ ghost use mathlib.Core.List.{_∷_, []};
 ghost use Prim.Native.Nat.{_*_, _/_, _%_, _^_, _≤_, _<_, max, min};
 ghost use lib.Dec.{eqb};
 ghost use lib.ListN.{take};
-ghost use Rattle.table.specs.declared.Checked.the-variants.{Fine};
-ghost use Rattle.table.specs.Limits.{maxResources, maxTime, maxCount};
-ghost use Rattle.table.specs.Rules.{tableFault};
-ghost use Rattle.waits.specs.Answers.{waitsOf};
-ghost use Rattle.waits.specs.Kept.{maxKept, keySlots, keyOf, keysOf, InLimits, KeptRow, KeptWith, sumOthers, maxOthers, waitFor, waitWith};
+ghost use Rattle.table.specs.Limits.{maxResources, maxTime};
+ghost use Rattle.theory.specs.Groups.{maxRequests, InBounds};
+ghost use Rattle.waits.specs.Kept.{maxKept, keySlots, keyOf, keysOf, InLimits, KeptRow, KeptWith, sumOthers, maxOthers, waitFor, waitWith, waitsBy};
 use table::Table;
 use table::Task;
 
@@ -130,8 +128,8 @@ fn wide(x: u32) -> u64
 
 // What a task waits for the resource at slot k, of which it has so many requests.
 fn wait_for(kept: &[u32; KEPT], n: usize, alpha: u32, requests: u32, k: usize) -> u64
-    requires { ⌜ KeptRow (now kept) n × (requests ≤ maxCount) ⌝ }
-    ensures { λ r. ⌜ (r ≡ waitFor (take n (now (kept .entry))) alpha requests k) × (r ≤ maxCount * maxOthers) ⌝ }
+    requires { ⌜ KeptRow (now kept) n × (requests ≤ maxRequests) ⌝ }
+    ensures { λ r. ⌜ (r ≡ waitFor (take n (now (kept .entry))) alpha requests k) × (r ≤ maxRequests * maxOthers) ⌝ }
 {
     if requests == 0 {
         return 0;
@@ -154,18 +152,18 @@ fn wait_of(kept: &[u32; KEPT], n: usize, alpha: u32, x: Task) -> u64
     sum
 }
 
-// The waits of the tasks of an accepted table, each with its alpha, and 0 past them.
-pub(crate) fn waits_of(t: Table) -> [u64; Table::MAX_TASKS]
-    requires { ⌜ tableFault t ≡ Fine ⌝ }
-    ensures { λ r. ⌜ r ≡ waitsOf t ⌝ }
+// The waits of the tasks by the merged pairs of an accepted table, each with its alpha, and 0 past them.
+pub(crate) fn waits_of(m: Table) -> [u64; Table::MAX_TASKS]
+    requires { ⌜ InBounds m ⌝ }
+    ensures { λ r. ⌜ r ≡ waitsBy m ⌝ }
 {
     let mut waits = [0u64; Table::MAX_TASKS];
     let mut kept = [0u32; KEPT];
     let mut n: usize = 0;
-    let mut i: usize = t.n;
+    let mut i: usize = m.n;
     while 0 < i {
         i -= 1;
-        let x = t.tasks[i];
+        let x = m.tasks[i];
         waits[i] = wait_of(&kept, n, x.alpha, x);
         n = keep_task(&mut kept, n, x);
     }

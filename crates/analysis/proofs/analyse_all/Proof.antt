@@ -17,7 +17,7 @@ use Rattle.theory.proofs.MergeLaws.{merged-n}
 use Rattle.theory.specs.Merge.{merged}
 use Rattle.analysis.specs.Answers.{allowanceFault, rowFault, analysisFault, recordBy, recordOf}
 use Rattle.analysis.proofs.RowLaws.{fits, row-fine, row-refused}
-use Rattle.analysis.proofs.ReadLaws.{read-own, read-merged, read-asks}
+use Rattle.merging.proofs.ReadLaws.{read-own, read-merged, read-asks}
 use Rattle.analysis.proofs.analyse_all.Statement.{statement}
 use Rattle.analysis.proofs.analyse_all.Tie as tie
 
@@ -94,8 +94,8 @@ returns-2 c =
     let all : l .loop .k ≡ t .n = omega (arith, tasks e) in (
       own (e .before .before),
       l .loop .inv .1
-      ∙ (λ j. rowTo (all j) (recordBy (viewOf (read e j)) A) ++ drop (all j) (s e .args .rows))
-      ∙ row-fine t A (s e .args .rows) (fine e),
+          ∙ (λ j. rowTo (all j) (recordBy (viewOf (read e j)) A) ++ drop (all j) (s e .args .rows))
+          ∙ row-fine t A (s e .args .rows) (fine e),
     )
 
 pub analyse-all-spec : {M : Type 1} → statement M

@@ -11,7 +11,7 @@ use Rattle.theory.specs.Tables.{viewOf, countedBy, countedIn}
 use Rattle.analysis.specs.declared.Answer.the-variants.{Known}
 use Rattle.analysis.specs.Answers.{allowanceFault, boundFault, boundOf}
 use Rattle.analysis.proofs.RowLaws.{asked}
-use Rattle.analysis.proofs.ReadLaws.{read-own, read-merged, read-asks}
+use Rattle.merging.proofs.ReadLaws.{read-own, read-merged, read-asks}
 use borrow.Author.Needs.{needs}
 use Rattle.analysis.proofs.bound.Statement.{statement}
 use Rattle.analysis.proofs.bound.Tie as tie

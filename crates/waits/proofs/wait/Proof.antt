@@ -20,13 +20,16 @@ use Rattle.table.proofs.Acceptance.{fine-accepted}
 use Rattle.theory.specs.View.{level}
 use Rattle.waits.specs.declared.Waiting.the-variants.{For}
 use Rattle.waits.specs.Answers.{waitIn, slotWait, waitFault, waitAnswer}
+use Rattle.waits.specs.Kept.{waitsBy}
+use Rattle.merging.proofs.ReadLaws.{read-own, read-merged, read-bounds}
+use Rattle.waits.proofs.AnswerLaws.{waits-merged}
 use Rattle.waits.proofs.wait.Statement.{statement}
 use Rattle.waits.proofs.wait.Tie as tie
 
 -- what the two checks come to
 checks : (c : tie.After-first-of) → let a = c .before .before .before .args in c .first-of .result ≡ waitFault (a .t1) (a .task)
 unfolding waitFault
-checks c = c .first-of .ensures ∙ ap₂ _then_ (c .before .before .check .ensures) (c .before .asked .ensures)
+checks c = c .first-of .ensures ∙ ap₂ _then_ (read-own _ (c .before .before .merge .ensures)) (c .before .asked .ensures)
 
 -- where they find nothing
 record Sound (s : tie.Start) : Type 0 where
@@ -56,26 +59,25 @@ returns-2 c =
     rw (← checks (e .before .before), e .enum-told .given .1, le-ltb 0 (alphaAt (a .t1) 0) (omega arith))
 
 waits-of-requires : tie.Need-waits-of-requires
-waits-of-requires c κs = sound (c .before .before .before) .fine
+waits-of-requires c κs =
+    let e = c .before .before .before .before in
+    read-bounds _ (e .before .before .before .before .merge .ensures) (sound e .fine)
 
 sub-i : tie.Need-sub-i
-sub-i c = sound (c .before .before .before .before .before) .least
-
-array-read-t20 : tie.Need-array-read-t20
-array-read-t20 c = sound (c .before .before .before .before .before) .most
+sub-i c = sound (c .before .before .before .before .before .before) .least
 
 returns-3 : tie.Need-returns-3
 unfolding waitAnswer
 returns-3 c =
     let w = c .before in
-    let e = w .before .before .before .before in
+    let e = w .before .before .before .before .before in
     let s = sound e in
     let a = e .before .before .before .before .before .args in
     let i = a .task .0 - 1 in
     let n : suc i ≡ a .task .0 = omega (arith, s .least) in
     let l : level i ≡ a .task = λ j. record { 0 = n j } in
     let x : getD (w .waits-of .result) i 0 ≡ waitIn (a .t1) (a .task) =
-    ap (λ (row : List ℕ). getD row i 0) (w .waits-of .ensures) ∙ row-at maxTasks i (slotWait (a .t1)) 0 (s .most) ∙ rw (lt-ltb i (a .t1 .n) (s .slot)) (ap (waitIn (a .t1)) l) in
+    ap (λ (row : List ℕ). getD row i 0) (w .waits-of .ensures ∙ ap waitsBy (read-merged _ (e .before .before .before .before .merge .ensures) (s .fine)) ∙ waits-merged (a .t1) (s .fine)) ∙ row-at maxTasks i (slotWait (a .t1)) 0 (s .most) ∙ rw (lt-ltb i (a .t1 .n) (s .slot)) (ap (waitIn (a .t1)) l) in
     rw (← checks (e .before .before), e .enum-told .given .1, lt-ltb 0 (alphaAt (a .t1) 0) (omega arith)) (ap For x)
 
 pub wait-spec : {M : Type 1} → statement M
@@ -94,5 +96,5 @@ wait-spec =
     (λ c. search needs)
     sub-i
     (λ c. search needs)
-    array-read-t20
+    (λ c. sound (c .before .before .before .before .before .before) .most)
     returns-3)

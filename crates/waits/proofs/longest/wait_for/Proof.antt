@@ -5,7 +5,7 @@ use native.Mathlib.Nat.{mul-le-mul}
 use native.Mathlib.Omega.{arith}
 use mathlib.Core.Path.{ap₂}
 use Prim.Native.Nat.{_*_, _≤_}
-use Rattle.table.specs.Limits.{maxCount}
+use Rattle.theory.specs.Groups.{maxRequests}
 use Rattle.waits.specs.Kept.{maxOthers}
 use Rattle.waits.proofs.longest.wait_for.Statement.{statement}
 use Rattle.waits.proofs.longest.wait_for.Tie as tie
@@ -14,9 +14,9 @@ returns : tie.Need-returns
 returns c = let e = c .if1 .taken in (rw e, omega arith)
 
 -- the product is small
-small : (c : tie.After-sum-others) → c .before .wide .result * c .sum-others .result ≤ maxCount * maxOthers
+small : (c : tie.After-sum-others) → c .before .wide .result * c .sum-others .result ≤ maxRequests * maxOthers
 small c =
-    let h : c .before .wide .result ≤ maxCount = omega (arith, c .before .wide .ensures, c .before .before .before .pre .1) in
+    let h : c .before .wide .result ≤ maxRequests = omega (arith, c .before .wide .ensures, c .before .before .before .pre .1) in
     mul-le-mul h (c .sum-others .ensures .1)
 
 mul-result : tie.Need-mul-result

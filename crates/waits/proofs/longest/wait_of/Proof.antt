@@ -6,13 +6,14 @@ use Prim.Native.Nat.{ℕ, _-_, _*_, _≤_}
 use lib.ListN.{take}
 use Rattle.basics.specs.Over.{sumTo}
 use Rattle.basics.proofs.SumLaws.{sum-none, sum-more}
-use Rattle.table.specs.Limits.{maxResources, maxCount}
+use Rattle.table.specs.Limits.{maxResources}
+use Rattle.theory.specs.Groups.{maxRequests}
 use Rattle.waits.specs.Kept.{maxOthers, waitOn}
 use Rattle.waits.proofs.longest.wait_of.Statement.{statement}
 use Rattle.waits.proofs.longest.wait_of.Tie as tie
 
 abbrev Inv-loop : tie.InvT-loop
-Inv-loop kept n alpha x sum₀ k₀ sum k = (k ≤ maxResources) × (sum ≤ k * (maxCount * maxOthers)) × (sum ≡ sumTo k (waitOn (take n kept) alpha x))
+Inv-loop kept n alpha x sum₀ k₀ sum k = (k ≤ maxResources) × (sum ≤ k * (maxRequests * maxOthers)) × (sum ≡ sumTo k (waitOn (take n kept) alpha x))
 
 abbrev μ-loop : tie.MeasureT-loop
 μ-loop kept n alpha x sum₀ k₀ sum k = maxResources - k

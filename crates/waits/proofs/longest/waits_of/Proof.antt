@@ -5,9 +5,7 @@ use native.Mathlib.Nat.{le-refl}
 use native.Mathlib.Omega.{arith}
 use Prim.Native.Nat.{_-_, _≤_}
 use Rattle.table.specs.Limits.{maxTasks}
-use Rattle.table.specs.Accepted.{Accepted}
 use Rattle.table.specs.At.{taskAt}
-use Rattle.table.proofs.Acceptance.{fine-accepted}
 use Rattle.waits.specs.Kept.{InLimits, KeptRow}
 use Rattle.waits.proofs.KeptLaws.{kept-row}
 use Rattle.waits.proofs.WaitLaws.{KeptFrom, from-none, from-more, in-limits, waitsFrom, waits-none, waits-more, waits-all}
@@ -20,21 +18,18 @@ Inv-loop t waits₀ kept₀ n₀ i₀ waits kept n i = (i ≤ t .n) × (t .n ≤
 abbrev μ-loop : tie.MeasureT-loop
 μ-loop t waits₀ kept₀ n₀ i₀ waits kept n i = i
 
-accepted : (b : tie.Start Inv-loop μ-loop) → Accepted (b .args .t1)
-accepted b = fine-accepted (b .args .t1) (b .pre)
-
 -- what both calls ask for
 asked : (c : tie.In-loop Inv-loop μ-loop)
     → let l = c .before in
     KeptRow (l .loop .kept) (l .loop .n) × InLimits (taskAt (l .before .args .t1) (l .loop .i - 1))
 asked c =
     let l = c .before in
-    (kept-row tt (l .loop .inv .2), in-limits (l .before .args .t1) (accepted (l .before)) (l .loop .i - 1) (omega arith))
+    (kept-row tt (l .loop .inv .2), in-limits (l .before .args .t1) (l .before .pre) (l .loop .i - 1) (omega arith))
 
 loop-holds : tie.Need-loop-holds Inv-loop μ-loop
 loop-holds c =
     let t = c .args .t1 in
-    (le-refl (t .n), accepted c .tasks-most, from-none t _ refl, waits-none t)
+    (le-refl (t .n), c .pre .tasks-most, from-none t _ refl, waits-none t)
 
 loop-again : tie.Need-loop-again Inv-loop μ-loop
 loop-again c =
@@ -43,7 +38,7 @@ loop-again c =
     let b = l .before in
     let s = l .loop in
     let t = b .args .t1 in
-    let more = waits-more t (accepted b) (s .i) (s .n) (s .kept) (omega arith) (omega arith) (s .inv .2) in (
+    let more = waits-more t (b .pre) (s .i) (s .n) (s .kept) (omega arith) (omega arith) (s .inv .2) in (
       omega arith,
       s .inv .1,
       from-more t (s .i) (s .n) (c .keep-task .result) (s .kept) (c .keep-task .last .0) (omega arith) (omega arith) (s .inv .2) (c .keep-task .ensures),

@@ -11,7 +11,6 @@ use Rattle.table.specs.Answers.{orTable}
 use Rattle.theory.specs.Merge.{merged}
 use Rattle.theory.specs.Groups.{InBounds}
 use Rattle.theory.proofs.MergeLaws.{merged-n, merged-bounds}
-use Rattle.analysis.specs.Answers.{readTable}
 
 own-of : (c : Checked) (t : Table) → orTable c t .answer ≡ c
 own-of Fine t = refl
@@ -25,5 +24,8 @@ module _ (t : Table) {r : Reading} (e : r ≡ orTable (tableFault t) (merged t))
     pub read-merged : r .table ≡ merged t
     read-merged = ap (λ (r : Reading). r .table) e ∙ rw fine
 
+    pub read-bounds : InBounds (r .table)
+    read-bounds = rw read-merged (merged-bounds t fine)
+
     pub read-asks : {i : ℕ} → i < t .n → InBounds (r .table) × (i < r .table .n)
-    read-asks h = rw read-merged (merged-bounds t fine, rw (merged-n t) h)
+    read-asks h = (read-bounds, rw (read-merged, merged-n t) h)
