@@ -3,34 +3,34 @@
 use Prim.Native.Nat.{ℕ, suc, _+_, _*_, _≤_}
 use mathlib.Core.Path.{_≡_, refl}
 use mathlib.Core.Bool.{Bool, true, false}
-use mathlib.Core.List.{[], _++_}
+use mathlib.Core.List.{List, [], _++_}
 use native.Mathlib.Decide.{ℕ-discrete}
 use native.Mathlib.Omega.{arith}
-use lib.ListN.{length, replicate, length-append}
+use lib.ListN.{length, getD, replicate, length-append}
 use lib.Dec.{ltb, lit≤}
 use borrow.Author.Tests.{ltb-true, ltb-false}
 use Rattle.basics.specs.Choice.{pick, only}
 use Rattle.basics.specs.Text.{bytes}
-use Rattle.basics.specs.Over.{sumTo, countTo, firstTo, joinTo}
+use Rattle.basics.specs.Over.{sumTo, countTo, allTo, firstTo, joinTo}
 use Rattle.basics.proofs.SumLaws.{sum-le, sum-add, sum-scale}
 use Rattle.basics.proofs.JoinLaws.{join-length, join-bound}
 use Rattle.table.specs.declared.Pair.{Pair}
 use Rattle.table.specs.declared.Task.{Task}
 use Rattle.table.specs.declared.Table.{Table}
 use Rattle.table.specs.declared.Checked.the-variants.{Fine}
-use Rattle.table.specs.Limits.{maxResources, maxAlpha}
-use Rattle.table.specs.At.{aPair, aTask, withAlpha, taskAt, pairOf, totalOf}
+use Rattle.table.specs.Limits.{maxResources, maxGroup, maxAlpha}
+use Rattle.table.specs.At.{aPair, aTask, withAlpha, aTable, withGroups, taskAt, pairOf, totalOf}
 use Rattle.table.specs.Faults.{firstFault}
-use Rattle.table.specs.Rules.{timesInRange, timesInOrder, alphaFault, isUnused, usedInRange, pairInRange, totalsFit, pairFault, pairsFault, taskFault, lastAlpha, tasksFault, tableFault}
-use Rattle.table.specs.Accepted.{GoodTask}
+use Rattle.table.specs.Rules.{timesInRange, timesInOrder, groupsInRange, alphaFault, isUnused, usedInRange, pairInRange, totalsFit, pairFault, pairsFault, taskFault, lastAlpha, tasksFault, tableFault}
+use Rattle.table.specs.Accepted.{GoodTask, Accepted}
 use Rattle.table.proofs.RuleLaws.{PairBounds, pair-bounds}
 use Rattle.table.proofs.Acceptance.{fine-accepted}
 use Rattle.put.specs.Text.{width, countText, timeText}
 use Rattle.put.proofs.TextLaws.{count-length, width-few}
 use Rattle.put.proofs.TimeLaws.{time-few}
-use Rattle.writing.specs.Write.{useText, pairText, timesText, alphaText, ownText, taskText, textOf}
-use Rattle.writing.specs.Longest.{maxTaskText, maxAlphaText, maxUseText, twoDigits, maxLong, maxUsesText, maxText, LongestText}
-use Rattle.writing.proofs.WriteLaws.{use-length, times-length, counted-length, alpha-none, alpha-some, cpusText, cpus-length}
+use Rattle.writing.specs.Write.{useText, pairText, timesText, alphaText, ownText, taskText, groupText, memberText, headText, textOf}
+use Rattle.writing.specs.Longest.{maxCpusText, maxTaskText, maxAlphaText, maxUseText, twoDigits, maxGroupsText, maxLong, maxUsesText, maxText, LongestText}
+use Rattle.writing.proofs.WriteLaws.{use-length, times-length, counted-length, alpha-none, alpha-some, group-length, cpusText, cpus-length, headOf}
 
 -- ---- the `use` lines of a task
 
@@ -114,6 +114,36 @@ task-few x g =
       uses-few x g,
     )
 
+-- 8 bytes besides G and K
+member-few : (groups : List ℕ) (k : ℕ) → getD groups k 0 ≤ maxGroup → length (memberText groups k) ≤ 10 + width (suc k)
+unfolding memberText
+member-few groups k h = go (ltb 0 (getD groups k 0))
+  where
+    G : ℕ
+    G = getD groups k 0
+
+    go : (b : Bool) → length (pick b (groupText G (suc k)) []) ≤ 10 + width (suc k)
+    go true = omega (arith, group-length G (suc k), count-length G, count-length (suc k), width-few G 2 (lit≤ tt) (omega arith))
+    go false = omega arith
+
+group-lines : sumTo maxResources (λ k. 10 + width (suc k)) ≡ maxGroupsText
+unfolding sumTo firstTo width
+group-lines = refl
+
+head-few : (t : Table) → Accepted t → length (headOf t) ≤ maxCpusText + maxGroupsText
+unfolding headText
+head-few t a =
+    omega (
+      arith,
+      length-append (cpusText (t .cpus)) (joinTo maxResources (memberText (t .groups))),
+      cpus-length (t .cpus),
+      count-length (t .cpus),
+      width-few (t .cpus) 2 (lit≤ tt) (omega (arith, a .cpus-most)),
+      join-length maxResources (memberText (t .groups)),
+      sum-le maxResources (λ k. length (memberText (t .groups) k)) (λ k. 10 + width (suc k)) (λ k h. member-few (t .groups) k (a .groups-most k h)),
+      group-lines,
+    )
+
 text-most : (t : Table) → tableFault t ≡ Fine → length (textOf t) ≤ maxText
 unfolding textOf
 text-most t e =
@@ -121,10 +151,8 @@ text-most t e =
     omega (
       arith,
       a .tasks-most,
-      length-append (cpusText t) (joinTo (t .n) (λ i. taskText (taskAt t i))),
-      cpus-length t,
-      count-length (t .cpus),
-      width-few (t .cpus) 2 (lit≤ tt) (omega (arith, a .cpus-most)),
+      length-append (headOf t) (joinTo (t .n) (λ i. taskText (taskAt t i))),
+      head-few t a,
       join-bound (t .n) (maxTaskText + maxAlphaText + maxUsesText) (λ i. taskText (taskAt t i)) (λ i h. task-few (taskAt t i) (a .task i h)),
     )
 
@@ -134,14 +162,14 @@ abbrev longestTask : Task
 longestTask = withAlpha 64 (aTask 9_999_999 9_999_999 9_999_999 (replicate 9 (aPair 1_000 1_000_001 1_000_001) ++ replicate 7 (aPair 1_000 100_001 100_001)))
 
 abbrev longestTable : Table
-longestTable = record { cpus = 64; n = 32; tasks = replicate 32 longestTask }
+longestTable = withGroups (replicate 16 16) (aTable 64 32 (replicate 32 longestTask))
 
 longest-fine : tableFault longestTable ≡ Fine
-unfolding sumTo firstFault timesInRange timesInOrder alphaFault isUnused usedInRange pairInRange totalsFit pairFault pairsFault taskFault lastAlpha tasksFault tableFault
+unfolding sumTo allTo firstFault timesInRange timesInOrder groupsInRange alphaFault isUnused usedInRange pairInRange totalsFit pairFault pairsFault taskFault lastAlpha tasksFault tableFault
 longest-fine = refl
 
 text-reached : length (textOf longestTable) ≡ maxText
-unfolding firstTo width countText timeText joinTo useText pairText alphaText taskText textOf
+unfolding firstTo width countText timeText joinTo useText pairText alphaText taskText groupText memberText headText textOf
 text-reached = refl
 
 pub longest-text : LongestText

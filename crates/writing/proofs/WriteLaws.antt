@@ -22,7 +22,7 @@ use Rattle.table.specs.declared.Pair.{Pair}
 use Rattle.table.specs.declared.Task.{Task}
 use Rattle.table.specs.declared.Table.{Table}
 use Rattle.table.specs.At.{taskAt}
-use Rattle.writing.specs.Write.{useText, timesText, alphaText, ownText, taskText}
+use Rattle.writing.specs.Write.{useText, timesText, alphaText, ownText, taskText, groupText, headText}
 
 -- ---- texts f 0, f 1, .., one after the other, behind h
 
@@ -87,17 +87,29 @@ module _ (A : ℕ) where
   unfolding alphaText
   alpha-some n = rw (lt-ltb 0 A (omega arith))
 
+module _ (G K : ℕ) where
+  pub group-length : length (groupText G K) ≡ 8 + length (countText G) + length (countText K)
+  unfolding groupText
+  group-length = omega (arith, ending-length (countText G ∷ countText K ∷ []))
+
+  pub group-most : G < 4_294_967_296 → K < 4_294_967_296 → length (groupText G K) ≤ 28
+  group-most g k = omega (arith, group-length, count-small G g, count-small K k)
+
+-- the first line
+abbrev pub cpusText : ℕ → List ℕ
+cpusText m = lineOf "cpus" (countText m ∷ [])
+
+pub cpus-length : (m : ℕ) → length (cpusText m) ≡ 6 + length (countText m)
+cpus-length = counted-length (bytes "cpus")
+
 module _ (t : Table) where
-  -- the first line
-  abbrev pub cpusText : List ℕ
-  cpusText = lineOf "cpus" (countText (t .cpus) ∷ [])
+  -- the lines before the tasks
+  abbrev pub headOf : List ℕ
+  headOf = headText (t .cpus) (t .groups)
 
   -- the lines of task i + 1
   abbrev pub linesOf : ℕ → List ℕ
   linesOf i = taskText (taskAt t i)
-
-  pub cpus-length : length cpusText ≡ 6 + length (countText (t .cpus))
-  cpus-length = counted-length (bytes "cpus") (t .cpus)
 
 -- ---- the line of a pair
 
@@ -107,3 +119,12 @@ module _ (k : ℕ) (p : Pair) where
 
   pub pair-used : ltb 0 (p .requests) ≡ true → pick (ltb 0 (p .requests)) (useText (suc k) p) [] ≡ useText (k + 1) p
   pair-used e = rw (e, add-one k)
+
+-- ---- the line of a resource
+
+module _ (k G : ℕ) where
+  pub member-none : G ≡ 0 → pick (ltb 0 G) (groupText G (suc k)) [] ≡ []
+  member-none e = rw (le-ltb 0 G (omega arith))
+
+  pub member-some : (G ≡ 0 → ⊥) → pick (ltb 0 G) (groupText G (suc k)) [] ≡ groupText G (k + 1)
+  member-some n = rw (lt-ltb 0 G (omega arith), add-one k)

@@ -14,6 +14,10 @@ use Rattle.writing.specs.Write.{textOf}
 abbrev pub maxCpusText : ℕ
 maxCpusText = 8
 
+-- `group 16 9`: K has one digit
+abbrev pub maxGroupText : ℕ
+maxGroupText = 11
+
 -- `task 9999.999 9999.999 9999.999`: the longest time is not the largest, which is written `10000`
 abbrev pub maxTaskText : ℕ
 maxTaskText = 32
@@ -30,6 +34,10 @@ maxUseText = 27
 abbrev pub twoDigits : ℕ
 twoDigits = maxResources - 9
 
+-- the `group` lines: a byte more for each K of two digits
+abbrev pub maxGroupsText : ℕ
+maxGroupsText = maxResources * maxGroupText + twoDigits
+
 -- how many CT of a task can be above 1,000 ms: their sum is at most C, so at most the largest time
 abbrev pub maxLong : ℕ
 maxLong = maxTime / 1_000_001
@@ -41,7 +49,7 @@ maxUsesText = maxResources * maxUseText + twoDigits + 2 * maxLong
 -- ---- the bytes of a text
 
 abbrev pub maxText : ℕ
-maxText = maxCpusText + maxTasks * (maxTaskText + maxAlphaText + maxUsesText)
+maxText = maxCpusText + maxGroupsText + maxTasks * (maxTaskText + maxAlphaText + maxUsesText)
 
 -- no text of an accepted table is longer, and one is as long
 pub record LongestText : Type 0 where

@@ -1,7 +1,7 @@
--- A table to a listing (document 01, "The listing"; `alpha`: request 8/12 of document 02): the text of a table, and what the writer answers.
+-- A table to a listing (document 01, "The listing"; `alpha` and `group`: requests 8/12 and 9/12 of document 02): the text of a table, and what the writer answers.
 use Prim.Native.Nat.{ℕ, suc}
 use mathlib.Core.List.{List, [], _∷_, _++_}
-use lib.ListN.{length}
+use lib.ListN.{length, getD}
 use lib.Dec.{ltb, leb}
 use Rattle.basics.specs.Choice.{pick}
 use Rattle.basics.specs.Over.{joinTo}
@@ -42,9 +42,21 @@ ownText x = timesText x ++ alphaText (x .alpha)
 unfoldable pub taskText : Task → List ℕ
 taskText x = ownText x ++ joinTo maxResources (pairText x)
 
+-- `group G K`, "resource K belongs to group G"
+unfoldable pub groupText : ℕ → ℕ → List ℕ
+groupText G K = lineOf "group" (countText G ∷ countText K ∷ [])
+
+-- of resource k + 1, if it has a group, used or not
+unfoldable pub memberText : List ℕ → ℕ → List ℕ
+memberText groups k = pick (ltb 0 (getD groups k 0)) (groupText (getD groups k 0) (suc k)) []
+
+-- the lines before those of the tasks: "add `group G K` lines after `cpus`"; "the writer writes groups in order of K"
+unfoldable pub headText : ℕ → List ℕ → List ℕ
+headText m groups = lineOf "cpus" (countText m ∷ []) ++ joinTo maxResources (memberText groups)
+
 -- "First `cpus M`. Then each task .., followed by its `use` lines"
 unfoldable pub textOf : Table → List ℕ
-textOf t = lineOf "cpus" (countText (t .cpus) ∷ []) ++ joinTo (t .n) (λ i. taskText (taskAt t i))
+textOf t = headText (t .cpus) (t .groups) ++ joinTo (t .n) (λ i. taskText (taskAt t i))
 
 -- ---- what the writer answers, and what the output then holds
 

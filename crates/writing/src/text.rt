@@ -10,7 +10,7 @@ ghost use Rattle.table.specs.declared.Checked.the-variants.{Fine};
 ghost use Rattle.table.specs.Rules.{tableFault};
 ghost use Rattle.basics.specs.Text.{ending};
 ghost use Rattle.put.specs.Text.{countText, timeText};
-ghost use Rattle.writing.specs.Write.{useText, timesText, alphaText, ownText, taskText, textOf};
+ghost use Rattle.writing.specs.Write.{useText, timesText, alphaText, ownText, taskText, groupText, headText, textOf};
 use table::Pair;
 use table::Resource;
 use table::Table;
@@ -175,13 +175,83 @@ fn put_task(out: &mut [u8], x: Task) -> usize
     at
 }
 
+fn group_len(group: u32, k: Resource) -> usize
+    ensures { λ r. ⌜ r ≡ length (groupText group (k .0)) ⌝ }
+    ensures { λ r. ⌜ r ≤ 28 ⌝ }
+{
+    8 + put::count_len(group as u64) + put::count_len(k.0 as u64)
+}
+
+// `group G K`.
+fn put_group(out: &mut [u8], group: u32, k: Resource) -> usize
+    requires { ⌜ length (groupText group (k .0)) ≤ length (now out) ⌝ }
+    ensures { λ r. ⌜ (r ≡ length (groupText group (k .0))) × (now (out .exit) ≡ groupText group (k .0) ++ drop r (now (out .entry))) ⌝ }
+{
+    let a = put(out, 0, b"group");
+    let b = a + put::spaced_count(out, a, group as u64).length();
+    let c = b + put::spaced_count(out, b, k.0 as u64).length();
+    put(out, c, b"\n")
+}
+
+fn member_len(k: usize, group: u32) -> usize
+    requires { ⌜ k < maxResources ⌝ }
+    ensures { λ r. ⌜ r ≡ length (pick (ltb 0 group) (groupText group (suc k)) []) ⌝ }
+    ensures { λ r. ⌜ r ≤ 28 ⌝ }
+{
+    if group == 0 {
+        return 0;
+    }
+    group_len(group, Resource((k + 1) as u32))
+}
+
+// The line of a resource that has a group; nothing of one that has none.
+fn put_member(out: &mut [u8], k: usize, group: u32) -> usize
+    requires { ⌜ (k < maxResources) × (length (pick (ltb 0 group) (groupText group (suc k)) []) ≤ length (now out)) ⌝ }
+    ensures { λ r. ⌜ (r ≡ length (pick (ltb 0 group) (groupText group (suc k)) [])) × (now (out .exit) ≡ pick (ltb 0 group) (groupText group (suc k)) [] ++ drop r (now (out .entry))) ⌝ }
+{
+    if group == 0 {
+        return 0;
+    }
+    put_group(out, group, Resource((k + 1) as u32))
+}
+
+fn head_len(cpus: u32, groups: [u32; Table::MAX_RESOURCES]) -> usize
+    ensures { λ r. ⌜ r ≡ length (headText cpus groups) ⌝ }
+    ensures { λ r. ⌜ r ≤ 16 + maxResources * 28 ⌝ }
+{
+    let mut sum = 6 + put::count_len(cpus as u64);
+    let mut k: usize = 0;
+    while k < Table::MAX_RESOURCES {
+        let group = groups[k];
+        sum += member_len(k, group);
+        k += 1;
+    }
+    sum
+}
+
+// `cpus M`, and the lines of the groups, each into the rest of the output.
+fn put_head(out: &mut [u8], cpus: u32, groups: [u32; Table::MAX_RESOURCES]) -> usize
+    requires { ⌜ length (headText cpus groups) ≤ length (now out) ⌝ }
+    ensures { λ r. ⌜ (r ≡ length (headText cpus groups)) × (now (out .exit) ≡ headText cpus groups ++ drop r (now (out .entry))) ⌝ }
+{
+    let mut at = put_counted(out, b"cpus", cpus);
+    let mut k: usize = 0;
+    while k < Table::MAX_RESOURCES {
+        let group = groups[k];
+        at += put_member(&mut out[at..], k, group);
+        k += 1;
+    }
+    at
+}
+
 // How long the text of a table is.
 pub(crate) fn table_len(t: Table) -> usize
     requires { ⌜ tableFault t ≡ Fine ⌝ }
     ensures { λ r. ⌜ r ≡ length (textOf t) ⌝ }
 {
     let n = t.n;
-    let mut sum = 6 + put::count_len(t.cpus as u64);
+    let groups = t.groups;
+    let mut sum = head_len(t.cpus, groups);
     let mut i: usize = 0;
     while i < n {
         let x = t.tasks[i];
@@ -191,13 +261,14 @@ pub(crate) fn table_len(t: Table) -> usize
     sum
 }
 
-// `cpus M`, and each task's lines into the rest of the output.
+// The lines before the tasks, and each task's lines into the rest of the output.
 pub(crate) fn put_table(out: &mut [u8], t: Table) -> usize
     requires { ⌜ (tableFault t ≡ Fine) × (length (textOf t) ≤ length (now out)) ⌝ }
     ensures { λ r. ⌜ (r ≡ length (textOf t)) × (now (out .exit) ≡ textOf t ++ drop r (now (out .entry))) ⌝ }
 {
     let n = t.n;
-    let mut at = put_counted(out, b"cpus", t.cpus);
+    let groups = t.groups;
+    let mut at = put_head(out, t.cpus, groups);
     let mut i: usize = 0;
     while i < n {
         let x = t.tasks[i];
