@@ -19,7 +19,7 @@ use Rattle.table.specs.declared.Task.{Task}
 use Rattle.table.specs.declared.Table.{Table}
 use Rattle.table.specs.declared.Checked.{Checked}
 use Rattle.table.specs.Limits.{maxTasks}
-use Rattle.table.specs.Empty.{emptyTask, emptyTable}
+use Rattle.table.specs.Empty.{noGroups, emptyTask, emptyTable}
 use Rattle.table.specs.At.{taskAt}
 use Rattle.block.specs.declared.Head.{Head}
 use Rattle.block.specs.Block.{blockSize, headIn, taskIn}
@@ -47,15 +47,16 @@ module _ (a : List ℕ) (n : ℕ) (l : length a ≡ 512 * n) where
       record {
         cpus = headIn (blockAt a 0) .cpus;
         n = n;
+        groups = noGroups;
         tasks = rowTo i (λ j. taskIn (blockAt a j)) ++ drop i (replicate maxTasks emptyTask);
       }
 
-  pub table-start : {t : Table} {h : Head} → t ≡ emptyTable → h ≡ headIn (take 512 a) → record { cpus = h .cpus; n = n; tasks = t .tasks } ≡ tableTo 0
+  pub table-start : {t : Table} {h : Head} → t ≡ emptyTable → h ≡ headIn (take 512 a) → record { cpus = h .cpus; n = n; groups = t .groups; tasks = t .tasks } ≡ tableTo 0
   unfolding emptyTable
   table-start e f = rw (e, f, ← over-none (λ j. taskIn (blockAt a j)) (replicate maxTasks emptyTask))
 
   pub table-more : (i : ℕ) {t : Table} {x : Task} → i < maxTasks → t ≡ tableTo i → x ≡ taskIn (take (512 * i + 512 - 512 * i) (drop (512 * i) a))
-      → record { cpus = t .cpus; n = t .n; tasks = set (t .tasks) i x } ≡ tableTo (i + 1)
+      → record { cpus = t .cpus; n = t .n; groups = t .groups; tasks = set (t .tasks) i x } ≡ tableTo (i + 1)
   table-more i h e f =
       rw (e, f, part-is a i, over-more (λ j. taskIn (blockAt a j)) i (replicate maxTasks emptyTask) (omega (arith, length-replicate maxTasks emptyTask)))
 

@@ -6,7 +6,7 @@ use mathlib.Core.Bool.{Bool, true, false}
 use mathlib.Core.List.{List}
 use native.Mathlib.Omega.{arith}
 use native.Mathlib.Decide.{decLt}
-use lib.ListN.{length, getD, List·getD-eq-default}
+use lib.ListN.{length, getD, getD-replicate, List·getD-eq-default}
 use lib.Dec.{ltb}
 use Rattle.basics.specs.Choice.{pick}
 use Rattle.basics.specs.Over.{rowTo}
@@ -17,9 +17,9 @@ use Rattle.table.specs.declared.Checked.the-variants.{Fine, Refused}
 use Rattle.table.specs.declared.Reading.{Reading}
 use Rattle.table.specs.declared.Task.{Task}
 use Rattle.table.specs.declared.Table.{Table}
-use Rattle.table.specs.Limits.{maxTasks}
+use Rattle.table.specs.Limits.{maxTasks, maxResources}
 use Rattle.table.specs.Empty.{emptyTask}
-use Rattle.table.specs.At.{noTask, NoAlpha}
+use Rattle.table.specs.At.{noTask, NoAlpha, NoGroup}
 use Rattle.table.specs.Faults.{_then_, unless}
 use Rattle.table.specs.Rules.{tableFault}
 use Rattle.table.specs.Answers.{accepted, orTable}
@@ -44,7 +44,12 @@ accepted-is a t e = go (archiveFault a) refl e
     go Fine f q = (refl, ap (λ (r : Reading). r .table) q)
     go (Refused r) f q = let e : Refused r ≡ Fine = ap (λ (x : Reading). x .answer) q in let z : _≡_ {A = ℕ} 0 1 = cc in absurd (omega arith)
 
--- a card has no alpha
+-- a card has no groups
+pub card-ungrouped : (a : List ℕ) → NoGroup (tableIn a)
+unfolding tableIn
+card-ungrouped a k h = getD-replicate maxResources k 0 0 h
+
+-- and no alpha
 task-none : (b : Bool) (s : List ℕ) → pick b (taskIn s) emptyTask .alpha ≡ 0
 unfolding taskIn emptyTask
 task-none true s = refl

@@ -1,21 +1,21 @@
--- Request 2/12 of document 02: the archive of a table; what an archive is refused with, and the table that it says.
+-- Request 2/12 of document 02: the archive of a table; what an archive is refused with, and the table that it says. 20 is request 9/12's.
 use Prim.Native.Nat.{ℕ, _+_, _*_, _/_, _%_}
-use mathlib.Core.Bool.{Bool, _&&_}
+use mathlib.Core.Bool.{Bool, not, _&&_}
 use mathlib.Core.List.{List}
 use lib.ListN.{length, take, drop}
 use lib.Dec.{leb, ltb, eqb}
 use Rattle.basics.specs.Choice.{pick, within}
 use Rattle.basics.specs.Over.{joinTo, rowTo}
 use Rattle.table.specs.declared.Table.{Table}
-use Rattle.table.specs.declared.Fault.the-variants.{TooShort, BadLength, BadBlock, Mismatch}
+use Rattle.table.specs.declared.Fault.the-variants.{TooShort, BadLength, BadBlock, Mismatch, HasGroup}
 use Rattle.table.specs.declared.Checked.{Checked}
 use Rattle.table.specs.declared.Reading.{Reading}
 use Rattle.table.specs.declared.Written.{Written}
 use Rattle.table.specs.Limits.{maxTasks}
-use Rattle.table.specs.Empty.{emptyTask}
+use Rattle.table.specs.Empty.{noGroups, emptyTask}
 use Rattle.table.specs.At.{taskAt}
 use Rattle.table.specs.Faults.{_then_, unless, firstFault}
-use Rattle.table.specs.Rules.{tableFault}
+use Rattle.table.specs.Rules.{hasGroup, tableFault}
 use Rattle.table.specs.Answers.{orTable, orWrote, orText}
 use Rattle.block.specs.declared.Head.{Head}
 use Rattle.block.specs.Block.{blockSize, blockOf, goodBlock, headIn, taskIn}
@@ -34,9 +34,13 @@ blockFor t i = blockOf (headFor t i) (taskAt t i)
 unfoldable pub archiveOf : Table → List ℕ
 archiveOf t = joinTo (t .n) (blockFor t)
 
--- the table's own refusals; "a writer whose output is shorter than 512 × n bytes gives 11 last"
+-- the table's own refusals; 20, "writing a table that has a group as a card archive of version 1, place 0, after the table's own and before 11";
+-- "a writer whose output is shorter than 512 × n bytes gives 11 last"
 unfoldable pub archivingFault : Table → ℕ → Checked
-archivingFault t room = tableFault t then unless (leb (blockSize * t .n) room) TooShort 0
+archivingFault t room =
+    tableFault t then
+    unless (not (hasGroup (t .groups))) HasGroup 0 then
+    unless (leb (blockSize * t .n) room) TooShort 0
 
 unfoldable pub archivingAnswer : Table → ℕ → Written
 archivingAnswer t room = orWrote (archivingFault t room) (blockSize * t .n)
@@ -74,12 +78,13 @@ blockFaultAt a i = blockFault (headIn (blockAt a 0)) (blocksIn a) (i + 1) (block
 unfoldable pub blocksFault : List ℕ → Checked
 blocksFault a = firstFault (blocksIn a) (blockFaultAt a)
 
--- the processors that block 1 says and the task of each block, with zeros past the last
+-- the processors that block 1 says and the task of each block, with zeros past the last; a card of version 1 has no groups
 unfoldable pub tableIn : List ℕ → Table
 tableIn a =
     record {
       cpus = headIn (blockAt a 0) .cpus;
       n = blocksIn a;
+      groups = noGroups;
       tasks = rowTo maxTasks (λ i. pick (ltb i (blocksIn a)) (taskIn (blockAt a i)) emptyTask);
     }
 

@@ -20,6 +20,13 @@ pub fn write(t: Table, out: &mut [u8]) -> Written
     if let Checked::Refused(r) = checking::check(t) {
         return Written::NotWritten(r);
     }
+    let groups = t.groups;
+    if rules::has_group(groups) {
+        return Written::NotWritten(Refusal {
+            fault: Fault::HasGroup,
+            place: 0,
+        });
+    }
     let needed = SIZE * t.n;
     if out.len() < needed {
         return Written::NotWritten(Refusal {
