@@ -6,17 +6,18 @@ use mathlib.Core.List.{List}
 use native.Mathlib.Omega.{arith}
 use borrow.Author.Tests.{ltb-true, lt-ltb}
 use lib.Dec.{ltb}
+use lib.ListN.{length-replicate, getD-replicate}
 use Rattle.basics.specs.Choice.{pick}
-use Rattle.basics.specs.Over.{joinTo}
+use Rattle.basics.specs.Over.{joinTo, rowTo}
 use Rattle.basics.proofs.JoinLaws.{join-eq}
-use Rattle.basics.proofs.RowLaws.{row-at, row-eq}
+use Rattle.basics.proofs.RowLaws.{row-at, row-is, row-eq}
 use Rattle.basics.proofs.ChoiceLaws.{pick-when}
 use Rattle.table.specs.declared.Task.{Task}
 use Rattle.table.specs.declared.Table.{Table}
 use Rattle.table.specs.declared.Checked.the-variants.{Fine}
 use Rattle.table.specs.Limits.{maxTasks, maxResources}
-use Rattle.table.specs.Empty.{emptyTask}
-use Rattle.table.specs.At.{noTask, taskAt, pairOf, SameTask}
+use Rattle.table.specs.Empty.{noGroups, emptyTask}
+use Rattle.table.specs.At.{noTask, taskAt, groupAt, NoGroup, pairOf, SameTask}
 use Rattle.table.specs.Accepted.{Accepted}
 use Rattle.table.specs.Rules.{tableFault}
 use Rattle.table.specs.Without.{withoutAlpha}
@@ -31,16 +32,20 @@ use Rattle.block.proofs.BlockLaws.{block-length}
 use Rattle.card.specs.Archive.{headFor, blockFor, archiveOf, blockAt, blocksIn, tableIn, readArchive}
 use Rattle.card.proofs.ArchiveLaws.{archive-length}
 use Rattle.table.specs.Answers.{accepted}
-use Rattle.card.proofs.ReadLaws.{accepted-is, card-none, accepted-passes}
-use Rattle.release.specs.Undo.{Bytes, ReadsBack, DropsAlpha, AlphaAlone, ReadsNone, WritesAgain, SameArchive, OneArchive, PassesCheck}
+use Rattle.card.proofs.ReadLaws.{accepted-is, card-none, card-ungrouped, accepted-passes}
+use Rattle.release.specs.Undo.{Bytes, ReadsBack, DropsAlpha, AlphaAlone, ReadsNone, ReadsUngrouped, WritesAgain, SameArchive, OneArchive, PassesCheck}
 use Rattle.release.specs.Refusals.{Whole, InPlace}
 use Rattle.release.proofs.BlockIs.{block-is}
 use Rattle.release.proofs.BlockBack.{Fits, good-back, head-back, task-back}
 use Rattle.release.proofs.Parts.{part-of, parts-joined, block-bytes, whole-blocks, Kept, fine-kept, kept-fine}
 
--- ---- the archive of an accepted table
+-- ---- the archive of an accepted table without groups
 
-module _ (t : Table) (e : tableFault t ≡ Fine) where
+-- its groups are those of a card
+no-groups : (t : Table) → NoGroup t → noGroups ≡ rowTo maxResources (groupAt t)
+no-groups t z = row-is maxResources (groupAt t) 0 noGroups (length-replicate {A = ℕ} maxResources 0) (λ k h. getD-replicate maxResources k 0 0 h ∙ sym (z k h))
+
+module _ (t : Table) (e : tableFault t ≡ Fine) (z : NoGroup t) where
   good : Accepted t
   good = fine-accepted t e
 
@@ -75,6 +80,7 @@ module _ (t : Table) (e : tableFault t ≡ Fine) where
       rw (
         whole-blocks whole,
         head-at 0 (good .tasks-least),
+        no-groups t z,
         row-eq maxTasks _ (λ i. pick (ltb i (t .n)) (clearedTask (taskAt (withoutAlpha t) i)) emptyTask)
             (λ i h. pick-when emptyTask (ltb i (t .n)) (λ l. ap taskIn (block-at i (ltb-true _ _ l)) ∙ task-back (headFor t i) (taskAt t i) (fits i (ltb-true _ _ l)) ∙ ap clearedTask (sym (without-at t i)))),
       )
@@ -101,10 +107,10 @@ module _ (t : Table) (e : tableFault t ≡ Fine) where
 
 pub drops-alpha : DropsAlpha
 unfolding readArchive
-drops-alpha t e = rw (kept-fine (archiveOf t) (kept t e), table-is t e)
+drops-alpha t e z = rw (kept-fine (archiveOf t) (kept t e z), table-is t e z)
 
 pub reads-back : ReadsBack
-reads-back t e z = drops-alpha t e ∙ ap accepted (none-cleared t z)
+reads-back t e a z = drops-alpha t e z ∙ ap accepted (none-cleared t a)
 
 -- ---- an accepted archive, written again
 
@@ -133,6 +139,9 @@ writes-again a t bytes e =
 
 pub reads-none : ReadsNone
 reads-none a t e = let p = accepted-is a t e in rw (← p .1) (card-none a)
+
+pub reads-ungrouped : ReadsUngrouped
+reads-ungrouped a t e = let p = accepted-is a t e in rw (← p .1) (card-ungrouped a)
 
 pub passes-check : PassesCheck
 passes-check = accepted-passes

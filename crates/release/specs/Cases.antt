@@ -7,7 +7,7 @@ use lib.ListN.{take, drop, set, replicate}
 use Rattle.table.specs.declared.Task.{Task}
 use Rattle.table.specs.declared.Fault.the-variants.{OutOfRange, BadTimes, BadLength, BadBlock, Mismatch}
 use Rattle.table.specs.Empty.{unusedPair}
-use Rattle.table.specs.At.{aPair, aTask}
+use Rattle.table.specs.At.{aPair, aTask, aTable}
 use Rattle.table.specs.Faults.{at}
 use Rattle.table.specs.Answers.{accepted}
 use Rattle.table.specs.Cleared.{cleared}
@@ -71,11 +71,7 @@ pub record CasesHold : Type 0 where
   pub largest : taskIn (blockOf (head 255 255 255) (taskWith 4_294_967_295 4_294_967_295 4_294_967_295 65_535 4_294_967_295 4_294_967_295))
       ≡ taskWith 4_294_967_295 4_294_967_295 4_294_967_295 65_535 4_294_967_295 4_294_967_295
   -- an archive, and what it is read as
-  pub archive : readArchive archiveA ≡ accepted (cleared (record {
-    cpus = 2;
-    n = 3;
-    tasks = taskWith 10_000 2_500 10_000 1 500 500 ∷ taskWith 20_000 4_000 15_000 0 0 0 ∷ taskWith 30_000 6_000 30_000 2 750 1_500 ∷ [];
-  }))
+  pub archive : readArchive archiveA ≡ accepted (cleared (aTable 2 3 (taskWith 10_000 2_500 10_000 1 500 500 ∷ taskWith 20_000 4_000 15_000 0 0 0 ∷ taskWith 30_000 6_000 30_000 2 750 1_500 ∷ [])))
   -- the refusals, in their order
   pub refusals : map (λ (a : List ℕ). readArchive a .answer)
       -- 12: no byte, a byte less and a byte more than a block, 33 blocks

@@ -57,5 +57,5 @@ pub record RefusedAsCalled : Type 0 where
   pub refused : (a : List ℕ) (number place : ℕ) → Refuses (readArchive a .answer) number place exactly-if CallsFor a number place
   -- and accepted exactly if nothing is called for
   pub accepted : (a : List ℕ) → (readArchive a .answer ≡ Fine) exactly-if ((n : ℕ) × Whole a n × FirstGood a n n × Accepted (tableIn a))
-  -- neither 8 nor 9 is among the table's own here: there are 1 to 32 blocks, and n is how many; nor 17 nor 18: a card has no alpha
+  -- neither 8 nor 9 is among the table's own here: there are 1 to 32 blocks, and n is how many; nor 17 nor 18: a card has no alpha; 19 is a line's, and 20 a writer's
   pub numbers : (a : List ℕ) (number place : ℕ) → Refuses (readArchive a .answer) number place → (number ≤ 7) ⊎ ((12 ≤ number) × (number ≤ 14))

@@ -1,11 +1,12 @@
 -- Request 2/12 of document 02: "Writer and reader are both wanted, each undoing the other, with one archive for one table"; and what a card is for.
+-- A card of version 1 has no groups, and a table that has one is not written (request 9/12, 20).
 use Prim.Native.Nat.{ℕ, _+_, _/_, _<_}
 use mathlib.Core.Path.{_≡_}
 use mathlib.Core.List.{List}
 use lib.ListN.{length, set}
 use Rattle.table.specs.declared.Table.{Table}
 use Rattle.table.specs.declared.Checked.the-variants.{Fine}
-use Rattle.table.specs.At.{NoAlpha, Same}
+use Rattle.table.specs.At.{NoAlpha, NoGroup, Same}
 use Rattle.table.specs.Faults.{Refuses}
 use Rattle.table.specs.Rules.{tableFault}
 use Rattle.table.specs.Answers.{accepted}
@@ -19,15 +20,15 @@ use Rattle.card.specs.Archive.{archiveOf, readArchive}
 abbrev pub Bytes : List ℕ → Type 0
 Bytes s = (i : ℕ) → byteAt s i < 256
 
--- the archive of an accepted table is read as that table, with zeros past the nth task: "its round trip is for tables without alpha" (request 8/12)
+-- the archive of an accepted table is read as that table, with zeros past the nth task: "its round trip is for tables without alpha" (request 8/12), and without groups
 abbrev pub ReadsBack : Type 0
-ReadsBack = (t : Table) → tableFault t ≡ Fine → NoAlpha t → readArchive (archiveOf t) ≡ accepted (cleared t)
+ReadsBack = (t : Table) → tableFault t ≡ Fine → NoAlpha t → NoGroup t → readArchive (archiveOf t) ≡ accepted (cleared t)
 
--- and of any accepted table as the same one without its alphas: "The archive drops it"
+-- and of any accepted table without groups as the same one without its alphas: "The archive drops it"
 abbrev pub DropsAlpha : Type 0
-DropsAlpha = (t : Table) → tableFault t ≡ Fine → readArchive (archiveOf t) ≡ accepted (cleared (withoutAlpha t))
+DropsAlpha = (t : Table) → tableFault t ≡ Fine → NoGroup t → readArchive (archiveOf t) ≡ accepted (cleared (withoutAlpha t))
 
--- two tables that differ in alpha alone have one archive
+-- two tables that differ in alpha alone have one archive, also where they have groups, so that none is written of either
 abbrev pub AlphaAlone : Type 0
 AlphaAlone = (s t : Table) → SameButAlpha s t → archiveOf s ≡ archiveOf t
 
@@ -43,9 +44,12 @@ SameArchive = (s t : Table) → Same s t → archiveOf s ≡ archiveOf t
 abbrev pub OneArchive : Type 0
 OneArchive = (a b : List ℕ) (s t : Table) → Bytes a → Bytes b → readArchive a ≡ accepted s → readArchive b ≡ accepted t → Same s t → a ≡ b
 
--- what a reading accepts has no alpha, and the check of a table accepts it
+-- what a reading accepts has no alpha and no group, and the check of a table accepts it
 abbrev pub ReadsNone : Type 0
 ReadsNone = (a : List ℕ) (t : Table) → readArchive a ≡ accepted t → NoAlpha t
+
+abbrev pub ReadsUngrouped : Type 0
+ReadsUngrouped = (a : List ℕ) (t : Table) → readArchive a ≡ accepted t → NoGroup t
 
 abbrev pub PassesCheck : Type 0
 PassesCheck = (a : List ℕ) (t : Table) → readArchive a ≡ accepted t → tableFault t ≡ Fine
