@@ -7,6 +7,7 @@
 --   LineRules    each kind of line, by its rules
 --   Says         what a line is that says something
 --   FieldCalls   what the fields of a `cpus` and of a `task` line call for
+--   GroupCalls   what those of a `group` line call for
 --   AlphaCalls   what that of an `alpha` line calls for
 --   UseCalls     what those of a `use` line call for
 --   Called       a line is refused with the number that it calls for
@@ -19,6 +20,7 @@ pub mod StatedLaws
 pub mod LineRules
 pub mod Says
 pub mod FieldCalls
+pub mod GroupCalls
 pub mod AlphaCalls
 pub mod UseCalls
 pub mod Called

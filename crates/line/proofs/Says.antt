@@ -12,10 +12,10 @@ use Rattle.basics.proofs.ChoiceLaws.{and-true, within-true}
 use Rattle.table.specs.declared.Pair.{Pair}
 use Rattle.table.specs.declared.Refusal.{Refusal}
 use Rattle.table.specs.declared.Resource.{Resource}
-use Rattle.table.specs.declared.Fault.the-variants.{BadField, OutOfRange, NotRising, BadTotals, TooManyTasks}
+use Rattle.table.specs.declared.Fault.the-variants.{BadField, OutOfRange, NotRising, BadTotals, TooManyTasks, GroupNotRising}
 use Rattle.table.specs.declared.Checked.{Checked}
 use Rattle.table.specs.declared.Checked.the-variants.{Fine, Refused}
-use Rattle.table.specs.Limits.{maxCpus, maxTasks, maxResources}
+use Rattle.table.specs.Limits.{maxCpus, maxTasks, maxResources, maxGroup}
 use Rattle.table.specs.Faults.{_then_, unless}
 use Rattle.table.specs.Rules.{timesFault, alphaFault, usedInRange, totalsFit}
 use Rattle.table.proofs.FirstLaws.{then-fine}
@@ -24,11 +24,11 @@ use Rattle.table.proofs.Acceptance.{alpha-good}
 use Rattle.field.specs.declared.Field.{Field}
 use Rattle.line.specs.declared.Past.{Past}
 use Rattle.line.specs.declared.Said.{Said}
-use Rattle.line.specs.declared.Said.the-variants.{Cpus, Task as TaskLine, Alpha, Use, Not}
+use Rattle.line.specs.declared.Said.the-variants.{Cpus, Group, Task as TaskLine, Alpha, Use, Not}
 use Rattle.line.specs.Fields.{form}
-use Rattle.line.specs.Line.{formed, value, _gives_, cpusLine, taskLine, alphaLine, useLine, lineSays}
+use Rattle.line.specs.Line.{formed, value, _gives_, cpusLine, groupLine, taskLine, alphaLine, useLine, lineSays}
 use Rattle.line.proofs.StatedLaws.{formed-states}
-use Rattle.line.proofs.LineRules.{CpusRules, TaskRules, AlphaRules, UseRules, Line, is-cpus, is-task, is-alpha, is-use, is-not}
+use Rattle.line.proofs.LineRules.{CpusRules, GroupRules, TaskRules, AlphaRules, UseRules, Line, is-cpus, is-group, is-task, is-alpha, is-use, is-not}
 
 -- ---- from what is said to the rules
 
@@ -46,6 +46,33 @@ cpus-rules n f P holds fails = given _ _ P go fails
         let a = then-fine (unless (formed f) BadField n) _ e in
         let w = within-true 1 maxCpus (value f) (unless-fine _ OutOfRange n (a .1)) in
         holds (record { field = formed-states f (unless-fine _ BadField n (a .0)); least = w .0; most = w .1 })
+
+group-rules : (past : Past) (n : ℕ) (f g : Field) (P : Said → Type 0)
+    → let K : Resource = record { 0 = value g } in
+    (GroupRules past f g (value f) K → P (Group (value f) K)) → ((r : Refusal) → P (Not r)) → P (groupLine past n f g)
+unfolding groupLine
+group-rules past n f g P holds fails = given _ _ P go fails
+  where
+    go : (unless (formed f && formed g) BadField n then
+        unless (within 1 maxGroup (value f) && within 1 maxResources (value g)) OutOfRange n then
+        unless (ltb (past .group .0) (value g)) GroupNotRising n) ≡ Fine → P (Group (value f) (record { 0 = value g }))
+    go e =
+        let a = then-fine (unless (formed f && formed g) BadField n) _ e in
+        let b = then-fine (unless (within 1 maxGroup (value f) && within 1 maxResources (value g)) OutOfRange n) _ (a .1) in
+        let c = and-true (formed f) (formed g) (unless-fine _ BadField n (a .0)) in
+        let r = and-true (within 1 maxGroup (value f)) (within 1 maxResources (value g)) (unless-fine _ OutOfRange n (b .0)) in
+        let i = within-true 1 maxGroup (value f) (r .0) in
+        let k = within-true 1 maxResources (value g) (r .1) in
+        holds
+        (record {
+          group = formed-states f (c .0);
+          resource = formed-states g (c .1);
+          group-least = i .0;
+          group-most = i .1;
+          least = k .0;
+          most = k .1;
+          rising = ltb-true _ _ (unless-fine _ GroupNotRising n (b .1));
+        })
 
 task-rules : (past : Past) (n : ℕ) (f g h : Field) (P : Said → Type 0)
     → (TaskRules past f g h (value f) (value g) (value h) → P (TaskLine (value f) (value g) (value h))) → ((r : Refusal) → P (Not r))
@@ -133,6 +160,8 @@ pub line-is : (past : Past) (n : ℕ) (s : List ℕ) → Line past n s (lineSays
 unfolding lineSays
 line-is past n s =
     chosen (form (bytes "cpus") 2 s) (eqb n 1) _ _ (Line past n s) (λ f e. cpus-rules n _ (Line past n s) (is-cpus f (eqb-true n 1 e)) is-not)
+    (chosen (form (bytes "group") 3 s) (ltb 1 n && eqb (past .tasks) 0) _ _ (Line past n s)
+    (λ f e. let h = and-true (ltb 1 n) (eqb (past .tasks) 0) e in group-rules past n _ _ (Line past n s) (is-group f (ltb-true 1 n (h .0)) (eqb-true (past .tasks) 0 (h .1))) is-not)
     (chosen (form (bytes "task") 4 s) (ltb 1 n) _ _ (Line past n s) (λ f e. task-rules past n _ _ _ (Line past n s) (is-task f (ltb-true 1 n e)) is-not)
     (chosen (form (bytes "alpha") 2 s) (past .fresh) _ _ (Line past n s) (λ f e. alpha-rules past n _ (Line past n s) (is-alpha f e) is-not)
-    (chosen (form (bytes "use") 5 s) (ltb 0 (past .tasks)) _ _ (Line past n s) (λ f e. use-rules past n _ _ _ _ (Line past n s) (is-use f (ltb-true 0 _ e)) is-not) (is-not _))))
+    (chosen (form (bytes "use") 5 s) (ltb 0 (past .tasks)) _ _ (Line past n s) (λ f e. use-rules past n _ _ _ _ (Line past n s) (is-use f (ltb-true 0 _ e)) is-not) (is-not _)))))

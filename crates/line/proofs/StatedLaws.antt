@@ -67,6 +67,9 @@ module _ {way : Rounding} {w : List ℕ} {x : Time} where
 pub cpus-word : IsField (bytes "cpus")
 cpus-word = alone-field refl (omega arith)
 
+pub group-word : IsField (bytes "group")
+group-word = alone-field refl (omega arith)
+
 pub task-word : IsField (bytes "task")
 task-word = alone-field refl (omega arith)
 

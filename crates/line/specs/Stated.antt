@@ -34,6 +34,11 @@ pub record IsLine (word : String) (ws : List (List ℕ)) (s : List ℕ) : Type 0
 -- ---- what the fields of a line state. "A run time, longest request or total (C, c, CT) is rounded up to the microsecond;
 -- a period or deadline (T, D) is rounded down" (document 02, 1/12)
 
+-- `group G K` (9/12)
+pub record StatesGroup (g k : List ℕ) (G K : ℕ) : Type 0 where
+  pub group : StatesCount g G
+  pub resource : StatesCount k K
+
 -- `task T C D`
 pub record StatesTask (t c d : List ℕ) (T C D : Time) : Type 0 where
   pub period : StatesTime Down t T

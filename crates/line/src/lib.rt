@@ -14,7 +14,7 @@ ghost use Rattle.field.specs.declared.Rounding.the-variants.{Down, Up};
 ghost use Rattle.line.specs.declared.Said.the-variants.{Not};
 ghost use Rattle.line.specs.Fields.{fieldCount, same, form};
 ghost use Rattle.line.specs.Places.{fieldAs, placed};
-ghost use Rattle.line.specs.Line.{countIn, timeIn, cpusLine, taskLine, alphaLine, useLine, lineSays};
+ghost use Rattle.line.specs.Line.{countIn, timeIn, cpusLine, groupLine, taskLine, alphaLine, useLine, lineSays};
 use field::Field;
 use field::Rounding;
 use table::Checked;
@@ -26,10 +26,11 @@ use table::Table;
 
 const RESOURCES: u32 = Table::MAX_RESOURCES as u32;
 
-// What the lines so far leave for the next one to be judged by: the tasks so far; of the last of them its C, the K of its last
-// `use` line (0: none), and the sum of its CT; how many of the tasks have an alpha, and the last of these (0: none); and whether
-// the last task is fresh, no line standing after its own.
+// What the lines so far leave for the next one to be judged by: the K of the last `group` line (0: none); the tasks so far; of the
+// last of them its C, the K of its last `use` line (0: none), and the sum of its CT; how many of the tasks have an alpha, and the
+// last of these (0: none); and whether the last task is fresh, no line standing after its own.
 pub struct Past {
+    pub group: Resource,
     pub tasks: usize,
     pub run: u32,
     pub last: Resource,
@@ -42,6 +43,7 @@ pub struct Past {
 // What a line says, or why it is refused.
 pub enum Said {
     Cpus(u32),
+    Group(u32, Resource),
     Task(u32, u32, u32),
     Alpha(u32),
     Use(Resource, Pair),
@@ -160,6 +162,22 @@ fn cpus_said(number: u32, m: u32) -> Said
     Said::Cpus(m)
 }
 
+// 4, then 19, of a resource's group.
+fn group_said(past: Past, number: u32, group: u32, k: Resource) -> Said
+    ensures { λ r. ⌜ r ≡ groupLine past number (Value group 0) (Value (k .0) 0) ⌝ }
+{
+    if !rules::in_range(group, Table::MAX_GROUP) {
+        return refuse(Fault::OutOfRange, number);
+    }
+    if !rules::in_range(k.0, RESOURCES) {
+        return refuse(Fault::OutOfRange, number);
+    }
+    if k.0 <= past.group.0 {
+        return refuse(Fault::GroupNotRising, number);
+    }
+    Said::Group(group, k)
+}
+
 // 8, of a task after so many.
 fn room_after(tasks: usize, number: u32) -> Checked
     ensures { λ r. ⌜ r ≡ unless (ltb tasks maxTasks) TooManyTasks number ⌝ }
@@ -226,6 +244,20 @@ fn cpus_line(number: u32, line: &[u8]) -> Said
         return refuse(Fault::BadField, number);
     };
     cpus_said(number, m)
+}
+
+// `group G K`.
+fn group_line(past: Past, number: u32, line: &[u8]) -> Said
+    requires { ⌜ form (bytes "group") 3 (now line) ≡ true ⌝ }
+    ensures { λ r. ⌜ r ≡ groupLine past number (countIn (now (line .entry)) 1) (countIn (now (line .entry)) 2) ⌝ }
+{
+    let FieldAt::Number(group, k_at) = field_at(line, 6, FieldKind::Count) else {
+        return refuse(Fault::BadField, number);
+    };
+    let FieldAt::Number(k, _) = field_at(line, k_at, FieldKind::Count) else {
+        return refuse(Fault::BadField, number);
+    };
+    group_said(past, number, group, Resource(k))
 }
 
 // `task T C D`.
@@ -296,6 +328,20 @@ fn cpus_here(line: &[u8], n: usize, number: u32) -> bool
     number == 1
 }
 
+// `group` stands after `cpus` and before any task.
+fn group_here(line: &[u8], n: usize, number: u32, tasks: usize) -> bool
+    requires { ⌜ n ≡ fieldCount (now line) ⌝ }
+    ensures { λ r. ⌜ r ≡ (form (bytes "group") 3 (now (line .entry)) && (ltb 1 number && eqb tasks 0)) ⌝ }
+{
+    if !is_form(line, n, b"group", 3) {
+        return false;
+    }
+    if number <= 1 {
+        return false;
+    }
+    tasks == 0
+}
+
 fn task_here(line: &[u8], n: usize, number: u32) -> bool
     requires { ⌜ n ≡ fieldCount (now line) ⌝ }
     ensures { λ r. ⌜ r ≡ (form (bytes "task") 4 (now (line .entry)) && ltb 1 number) ⌝ }
@@ -335,6 +381,9 @@ pub fn line_of(past: Past, number: u32, line: &[u8]) -> Said
     let n = field_count(line);
     if cpus_here(line, n, number) {
         return cpus_line(number, line);
+    }
+    if group_here(line, n, number, past.tasks) {
+        return group_line(past, number, line);
     }
     if task_here(line, n, number) {
         return task_line(past, number, line);
