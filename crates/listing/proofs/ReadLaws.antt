@@ -20,7 +20,7 @@ use Rattle.table.specs.Empty.{emptyTable}
 use Rattle.basics.proofs.FillLaws.{whole-part}
 use Rattle.line.specs.declared.Past.{Past}
 use Rattle.line.specs.declared.Said.{Said}
-use Rattle.line.specs.declared.Said.the-variants.{Task as TaskLine, Alpha, Use, Not}
+use Rattle.line.specs.declared.Said.the-variants.{Group, Task as TaskLine, Alpha, Use, Not}
 use Rattle.table.specs.declared.Reading.{Reading}
 use Rattle.listing.specs.Lines.{lines, endsInLF}
 use Rattle.listing.specs.FirstLine.{line}
@@ -28,7 +28,7 @@ use Rattle.line.specs.Line.{lineSays}
 use Rattle.table.specs.Answers.{refused}
 use Rattle.listing.specs.Read.{noLines, pastAfter, tableAfter, onSaid, readEnd, readLines, readListing}
 use Rattle.listing.proofs.LineLaws.{line-within, line-take, lines-more, lines-none, endsInLF-more, endsInLF-open}
-use Rattle.line.proofs.LineRules.{Line, is-cpus, is-task, is-alpha, is-use, is-not}
+use Rattle.line.proofs.LineRules.{Line, is-cpus, is-group, is-task, is-alpha, is-use, is-not}
 use Rattle.line.proofs.Says.{line-is}
 
 -- ---- what the lines so far leave
@@ -47,6 +47,7 @@ past-ok past n l ok = go _ (line-is past n l)
   where
     go : (said : Said) → Line past n l said → PastOk (pastAfter past said)
     go _ (is-cpus f e r) = ok
+    go _ (is-group f h e r) = record { tasks-most = ok .tasks-most; sum-run = ok .sum-run; run-most = ok .run-most; alphas-most = ok .alphas-most; fresh-most = ok .fresh-most }
     go _ (is-task f e r) =
         record { tasks-most = omega arith; sum-run = omega arith; run-most = omega arith; alphas-most = omega arith; fresh-most = λ h. omega arith }
     go _ (is-alpha f e r) =
@@ -143,6 +144,10 @@ module _ {s : List ℕ} {t : Table} {past : Past} {n at k : ℕ} {said : Said} (
         ok = rw g next-past;
         reads = rw (f, g, e) (goes _ ∙ rw e at next-reads);
       }
+
+-- what a `group` line owes to its resource
+pub group-resource : {past : Past} {n : ℕ} {l : List ℕ} {G : ℕ} {K : Resource} → Line past n l (Group G K) → (1 ≤ K .0) × (K .0 ≤ maxResources)
+group-resource (is-group f h e r) = (r .least, r .most)
 
 -- what a task line and a `use` line owe to the lines before them, and to the resource
 pub task-room : {past : Past} {n : ℕ} {l : List ℕ} {T C D : ℕ} → Line past n l (TaskLine T C D) → past .tasks < maxTasks

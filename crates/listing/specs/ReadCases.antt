@@ -7,11 +7,11 @@ use lib.ListN.{replicate}
 use Rattle.basics.specs.Text.{bytes}
 use Rattle.table.specs.declared.Table.{Table}
 use Rattle.table.specs.declared.Fault.{Fault}
-use Rattle.table.specs.declared.Fault.the-variants.{TooLong, BadForm, BadField, OutOfRange, BadTimes, NotRising, BadTotals, TooManyTasks, NoTask, AlphaMissing, AlphaRises}
+use Rattle.table.specs.declared.Fault.the-variants.{TooLong, BadForm, BadField, OutOfRange, BadTimes, NotRising, BadTotals, TooManyTasks, NoTask, AlphaMissing, AlphaRises, GroupNotRising}
 use Rattle.table.specs.declared.Checked.{Checked}
 use Rattle.table.specs.declared.Checked.the-variants.{Fine}
 use Rattle.table.specs.Empty.{unusedPair, emptyTask}
-use Rattle.table.specs.At.{aPair, aTask, withAlpha}
+use Rattle.table.specs.At.{aPair, aTask, withAlpha, aTable, withGroups}
 use Rattle.table.specs.Faults.{at}
 use Rattle.table.specs.Answers.{accepted, refused}
 use Rattle.listing.specs.Read.{readListing, newTask}
@@ -35,6 +35,10 @@ eight = "task 10 2.5 10\ntask 10 2.5 10\ntask 10 2.5 10\ntask 10 2.5 10\ntask 10
 -- 32 tasks, on lines 2 to 33
 abbrev full : String
 full = "cpus 2\n" ++ eight ++ eight ++ eight ++ eight
+
+-- `group` lines from line 2 on, and a task after them
+abbrev grouped : String → String
+grouped groups = "cpus 2\n" ++ groups ++ "task 10 5 10\nuse 1 1 1 1\nuse 2 1 1 1\n"
 
 -- a task to add `use` lines to, on line 2
 abbrev using5 : String → String
@@ -150,43 +154,75 @@ cases =
     ∷ bad (using5 "alpha 2\ntask 10 5 10\n") AlphaMissing 0
     ∷ bad (using5 "task 10 5 10\nalpha 2\n") AlphaMissing 0
     ∷ bad (using5 "alpha 2\ntask 10 5 10\nuse 0 1 1 1\n") OutOfRange 5
+    -- groups (document 02, 9/12), after `cpus` and before any task: of resources in use and not, up to group 16 of resource 16; leading zeros
+    ∷ fine (grouped "group 1 1\ngroup 1 2\n")
+    ∷ fine (grouped "group 0002 0001\ngroup 16 0016\n")
+    ∷ fine (grouped "group 16 1\ngroup 16 3\ngroup 2 15\ngroup 1 16\n")
+    -- before `cpus`; after a task, with and without groups before it; another word; between `cpus` and a second one
+    ∷ bad "group 1 1\ncpus 2\n" BadForm 1
+    ∷ bad (using5 "group 1 1\n") BadForm 3
+    ∷ bad (grouped "group 1 1\n" ++ "group 1 2\n") BadForm 6
+    ∷ bad (grouped "Group 1 1\n") BadForm 2
+    ∷ bad (grouped "group 1 1\ncpus 2\n") BadForm 3
+    -- fields: too few, too many, an empty one
+    ∷ bad (grouped "group 1\n") BadForm 2
+    ∷ bad (grouped "group 1 1 1\n") BadForm 2
+    ∷ bad (grouped "group 1  1\n") BadForm 2
+    -- `use` and `alpha` still stand after a task
+    ∷ bad "cpus 2\ngroup 1 1\nuse 1 1 1 1\n" BadForm 3
+    ∷ bad "cpus 2\ngroup 1 1\nalpha 1\n" BadForm 3
+    -- badly formed, whatever else the line has
+    ∷ bad (grouped "group x 1\n") BadField 2
+    ∷ bad (grouped "group 1 1.5\n") BadField 2
+    ∷ bad (grouped "group 00001 1\n") BadField 2
+    ∷ bad (grouped "group 17 x\n") BadField 2
+    -- ranges: each is 1 to 16
+    ∷ bad (grouped "group 0 1\n") OutOfRange 2
+    ∷ bad (grouped "group 17 1\n") OutOfRange 2
+    ∷ bad (grouped "group 1 0\n") OutOfRange 2
+    ∷ bad (grouped "group 1 17\n") OutOfRange 2
+    -- 19: K equal, falling; 4 comes before it; the groups themselves may fall, and a `use` line is not against them
+    ∷ bad (grouped "group 1 2\ngroup 2 2\n") GroupNotRising 3
+    ∷ bad (grouped "group 1 2\ngroup 1 1\n") GroupNotRising 3
+    ∷ bad (grouped "group 1 1\ngroup 1 3\ngroup 2 2\n") GroupNotRising 4
+    ∷ bad (grouped "group 1 2\ngroup 17 1\n") OutOfRange 3
+    ∷ bad (grouped "group 1 2\ngroup 1 0\n") OutOfRange 3
+    ∷ fine (grouped "group 9 9\ngroup 1 10\n")
+    -- no task: 9 with place 2, whatever the number of group lines; a fault of such a line comes before it
+    ∷ bad "cpus 2\ngroup 1 1\n" NoTask 2
+    ∷ bad "cpus 2\ngroup 1 1\ngroup 1 2\ngroup 2 3\n" NoTask 2
+    ∷ bad "cpus 2\ngroup 1 1\ngroup 1 1\n" GroupNotRising 3
+    ∷ bad "cpus 2\ngroup 1 1" BadForm 2
     -- of two faulty lines the first
     ∷ bad "cpus 2\ntask 10 9 8\nuse 0 x\n" BadTimes 2
     ∷ []
 
--- case A as a table: zeros past the third task
+-- case A as a table: no groups, and zeros past the third task
 unfoldable pub tableA : Table
 tableA =
-    record {
-      cpus = 2;
-      n = 3;
-      tasks =
-          aTask 10_000 2_500 10_000 (aPair 1 500 500 ∷ replicate 15 unusedPair)
-          ∷ newTask 20_000 4_000 15_000
-          ∷ aTask 30_000 6_000 30_000 (aPair 2 750 1_500 ∷ replicate 15 unusedPair)
-          ∷ replicate 29 emptyTask;
-    }
+    aTable 2 3
+    (aTask 10_000 2_500 10_000 (aPair 1 500 500 ∷ replicate 15 unusedPair)
+    ∷ newTask 20_000 4_000 15_000
+    ∷ aTask 30_000 6_000 30_000 (aPair 2 750 1_500 ∷ replicate 15 unusedPair)
+    ∷ replicate 29 emptyTask)
 
 -- a table whose every time is rounded
 unfoldable pub tableR : Table
-tableR =
-    record {
-      cpus = 1;
-      n = 1;
-      tasks = aTask 2_500 2_500 2_500 (aPair 2 500 1_000 ∷ replicate 15 unusedPair) ∷ replicate 31 emptyTask;
-    }
+tableR = aTable 1 1 (aTask 2_500 2_500 2_500 (aPair 2 500 1_000 ∷ replicate 15 unusedPair) ∷ replicate 31 emptyTask)
 
 -- two tasks with alpha, the second with a lock
 unfoldable pub tableP : Table
 tableP =
-    record {
-      cpus = 2;
-      n = 2;
-      tasks =
-          withAlpha 3 (newTask 10_000 5_000 10_000)
-          ∷ withAlpha 2 (aTask 10_000 5_000 10_000 (aPair 1 1_000 1_000 ∷ replicate 15 unusedPair))
-          ∷ replicate 30 emptyTask;
-    }
+    aTable 2 2
+    (withAlpha 3 (newTask 10_000 5_000 10_000)
+    ∷ withAlpha 2 (aTask 10_000 5_000 10_000 (aPair 1 1_000 1_000 ∷ replicate 15 unusedPair))
+    ∷ replicate 30 emptyTask)
+
+-- a table with groups: resources 1 and 3 in group 2, resource 16 in group 16, and resource 2, in use, in none
+unfoldable pub tableG : Table
+tableG =
+    withGroups (2 ∷ 0 ∷ 2 ∷ 0 ∷ 0 ∷ 0 ∷ 0 ∷ 0 ∷ 0 ∷ 0 ∷ 0 ∷ 0 ∷ 0 ∷ 0 ∷ 0 ∷ 16 ∷ [])
+    (aTable 2 1 (aTask 10_000 5_000 10_000 (aPair 1 1_000 1_000 ∷ aPair 1 1_000 1_000 ∷ replicate 14 unusedPair) ∷ replicate 31 emptyTask))
 
 abbrev pub CasesHold : Type 0
 CasesHold =
@@ -194,6 +230,7 @@ CasesHold =
     × (readListing (bytes caseA) ≡ accepted tableA)
     × (readListing (bytes "cpus 1\ntask 2.5009 2.499001 2.500001\nuse 1 2 0.4999 0.9995\n") ≡ accepted tableR)
     × (readListing (bytes (using5 "alpha 3\ntask 10 5 10\nalpha 2\nuse 1 1 1 1\n")) ≡ accepted tableP)
+    × (readListing (bytes (grouped "group 2 1\ngroup 2 3\ngroup 16 16\n")) ≡ accepted tableG)
     -- as many LF as a listing may have bytes, and one more
     × (readListing (replicate 65_536 10) ≡ refused BadForm 1)
     × (readListing (replicate 65_537 10) ≡ refused TooLong 0)

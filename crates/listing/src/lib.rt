@@ -26,18 +26,37 @@ fn after(past: Past, said: Said) -> Past
 {
     match said {
         Said::Cpus(_) => past,
-        Said::Task(_, run, _) => Past {
-            tasks: past.tasks + 1,
-            run,
-            last: Resource(0),
-            sum: 0,
-            alphas: past.alphas,
-            alpha: past.alpha,
-            fresh: true,
-        },
-        Said::Alpha(alpha) => {
+        Said::Group(_, group) => {
             let last = past.last;
             Past {
+                group,
+                tasks: past.tasks,
+                run: past.run,
+                last,
+                sum: past.sum,
+                alphas: past.alphas,
+                alpha: past.alpha,
+                fresh: past.fresh,
+            }
+        }
+        Said::Task(_, run, _) => {
+            let group = past.group;
+            Past {
+                group,
+                tasks: past.tasks + 1,
+                run,
+                last: Resource(0),
+                sum: 0,
+                alphas: past.alphas,
+                alpha: past.alpha,
+                fresh: true,
+            }
+        }
+        Said::Alpha(alpha) => {
+            let group = past.group;
+            let last = past.last;
+            Past {
+                group,
                 tasks: past.tasks,
                 run: past.run,
                 last,
@@ -47,15 +66,19 @@ fn after(past: Past, said: Said) -> Past
                 fresh: false,
             }
         }
-        Said::Use(last, p) => Past {
-            tasks: past.tasks,
-            run: past.run,
-            last,
-            sum: past.sum + p.total,
-            alphas: past.alphas,
-            alpha: past.alpha,
-            fresh: false,
-        },
+        Said::Use(last, p) => {
+            let group = past.group;
+            Past {
+                group,
+                tasks: past.tasks,
+                run: past.run,
+                last,
+                sum: past.sum + p.total,
+                alphas: past.alphas,
+                alpha: past.alpha,
+                fresh: false,
+            }
+        }
         Said::Not(_) => past,
     }
 }
@@ -147,6 +170,7 @@ fn read_lines(listing: &[u8]) -> Reading
 {
     let mut table = Table::empty();
     let mut past = Past {
+        group: Resource(0),
         tasks: 0,
         run: 0,
         last: Resource(0),
@@ -170,6 +194,10 @@ fn read_lines(listing: &[u8]) -> Reading
         match said {
             Said::Cpus(m) => {
                 table.cpus = m;
+            }
+            Said::Group(group, k) => {
+                let j = (k.0 - 1) as usize;
+                table.groups[j] = group;
             }
             Said::Task(period, run, deadline) => {
                 table.tasks[tasks] = new_task(period, run, deadline);
