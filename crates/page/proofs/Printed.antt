@@ -21,7 +21,7 @@ use Rattle.table.specs.Rules.{hasAlpha, tableFault}
 use Rattle.theory.specs.View.{level}
 use Rattle.listing.specs.Read.{readListing}
 use Rattle.theory.specs.declared.Verdict.the-variants.{Meets}
-use Rattle.analysis.specs.Answers.{noRecord, orNone, recordCount, analysisFault, recordOf, analysed}
+use Rattle.analysis.specs.Answers.{noRecord, orNone, recordCount, analysisFault, recordBy, recordOf, analysed}
 use Rattle.analysis.proofs.RowLaws.{fits, count-most, count-fine, row-record}
 use Rattle.waits.specs.Answers.{waitIn, noWaits, slotWait, waitsOf, allWaits}
 use Rattle.page.specs.declared.Page.{Page}
@@ -56,7 +56,7 @@ module _ (t : Table) (columns : Columns) (allowance : ℕ) where
   -- the rows, where the analysis says nothing against the table
   rows-by : (f : Checked) → analysisFault t allowance maxTasks ≡ f → let p = pageAfter Fine t columns allowance in
       orRefusal f (pageText columns (t .n) (cellsRow p (allCells (p .rows)))) ≡ orRefusal f (pageText columns (t .n) (taskRow columns t allowance))
-  unfolding recordOf
+  unfolding recordBy
   rows-by (Refused r) e = refl
   rows-by Fine e =
       page-eq columns (t .n) _ _ (λ i l.
