@@ -114,7 +114,7 @@ task-few x g =
       uses-few x g,
     )
 
--- 8 bytes besides G and K
+-- 8 bytes besides G, which has at most two digits, and K
 member-few : (groups : List ℕ) (k : ℕ) → getD groups k 0 ≤ maxGroup → length (memberText groups k) ≤ 10 + width (suc k)
 unfolding memberText
 member-few groups k h = go (ltb 0 (getD groups k 0))
