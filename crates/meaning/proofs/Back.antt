@@ -8,16 +8,17 @@ use lib.ListN.{length}
 use lib.Dec.{ltb, leb·suc-suc}
 use borrow.Author.Tests.{lt-ltb, le-ltb}
 use Rattle.basics.specs.Choice.{pick}
+use Rattle.basics.specs.Over.{rowTo}
 use Rattle.basics.proofs.JoinLaws.{join-eq}
 use Rattle.table.specs.declared.Task.{Task}
 use Rattle.table.specs.Limits.{maxTasks, maxResources}
 use Rattle.table.specs.Empty.{unusedPair, emptyTask}
-use Rattle.table.specs.At.{noTask, taskAt, pairOf, SameTask}
+use Rattle.table.specs.At.{noTask, taskAt, groupAt, pairOf, SameTask}
 use Rattle.table.specs.Cleared.{clearedTask, cleared}
 use Rattle.table.proofs.Acceptance.{fine-accepted}
 use Rattle.table.specs.Answers.{accepted}
-use Rattle.meaning.specs.Figures.{TaskFigures, Figures, pairFor, taskOf, taskFor, tableOf}
-use Rattle.writing.specs.Write.{pairText, taskText, textOf}
+use Rattle.meaning.specs.Figures.{TaskFigures, Figures, groupFor, pairFor, taskOf, taskFor, tableOf}
+use Rattle.writing.specs.Write.{pairText, taskText, memberText, headText, textOf}
 use Rattle.writing.proofs.LongestText.{longest-text}
 use Rattle.meaning.specs.Back.{TextFits, ReadsBack, Rewrites, SameText}
 use Rattle.basics.proofs.RowLaws.{row-at, row-eq}
@@ -51,8 +52,9 @@ tasks-clear (x ∷ xs) (suc i) = rw leb·suc-suc (tasks-clear xs i)
 table-clear : (f : Figures) → cleared (tableOf f) ≡ tableOf f
 unfolding cleared tableOf
 table-clear f =
-    ap (table (f .M) (length (f .tasks)))
-    (row-eq maxTasks _ _ (λ i h. rw (row-at maxTasks i (taskFor (f .tasks)) noTask h) (tasks-clear (f .tasks) i)))
+    rw (row-eq maxResources (groupAt (tableOf f)) (groupFor (f .groups)) (λ k h. row-at maxResources k (groupFor (f .groups)) 0 h))
+    (ap (table (f .M) (rowTo maxResources (groupFor (f .groups))) (length (f .tasks)))
+    (row-eq maxTasks _ _ (λ i h. rw (row-at maxTasks i (taskFor (f .tasks)) noTask h) (tasks-clear (f .tasks) i))))
 
 pub rewrites : Rewrites
 rewrites s t q =
@@ -66,6 +68,6 @@ unfolding taskText pairText
 task-text x y s = rw (s .period, s .run, s .deadline, s .alpha, join-eq maxResources (pairText x) (pairText y) (λ k h. rw (s .pairs k h)))
 
 pub same-text : SameText
-unfolding textOf
+unfolding textOf headText memberText
 same-text a b s =
-    rw (s .cpus, join-eq (a .n) (λ i. taskText (taskAt a i)) (λ i. taskText (taskAt b i)) (λ i h. task-text (taskAt a i) (taskAt b i) (s .tasks i h)), s .n)
+    rw (s .cpus, join-eq maxResources (memberText (a .groups)) (memberText (b .groups)) (λ k h. rw (s .groups k h)), join-eq (a .n) (λ i. taskText (taskAt a i)) (λ i. taskText (taskAt b i)) (λ i h. task-text (taskAt a i) (taskAt b i) (s .tasks i h)), s .n)

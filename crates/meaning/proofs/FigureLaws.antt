@@ -24,9 +24,10 @@ use Rattle.table.proofs.RuleFacts.{all-or-none-is}
 use Rattle.table.proofs.AlphaLaws.{holds-unless, some-only-is, AllOrNone, NeverRises, all-or-none}
 use Rattle.table.specs.Accepted.{GoodPair, GoodTask, Accepted}
 use Rattle.line.specs.Stated.{UseFigures, heldPair}
-use Rattle.meaning.specs.Figures.{TaskFigures, Figures, GoodUses, GoodTaskFigures, GoodAlpha, GoodTasks, alphasOf, GoodFigures, useFor, pairFor, taskOf, taskFor, tableOf}
+use Rattle.meaning.specs.Figures.{TaskFigures, Figures, GoodUses, GoodTaskFigures, GoodAlpha, GoodTasks, alphasOf, GoodFigures, groupFor, useFor, pairFor, taskOf, taskFor, tableOf}
 use Rattle.basics.proofs.RowLaws.{row-at}
 use Rattle.meaning.proofs.AlphaLaws.{held-most, alphaFor, counted, falls}
+use Rattle.meaning.proofs.GroupRows.{group-most}
 
 good-pair : {C last sum : ℕ} {us : List UseFigures} (k : ℕ) → GoodUses C last sum us → (pairFor us k ≡ unusedPair) ⊎ GoodPair (pairFor us k)
 good-pair k GoodUses.no-use = inl refl
@@ -131,6 +132,7 @@ good-table f g =
       tasks-most = g .so-far .tasks-most;
       cpus-least = g .so-far .cpus-least;
       cpus-most = g .so-far .cpus-most;
+      groups-most = λ k h. rw (row-at maxResources k (groupFor (f .groups)) 0 h) (group-most k (g .so-far .groups));
       all-or-none = table-alphas f g;
       never-rises = table-falls f g;
       task = λ i h. rw (row-at maxTasks i (taskFor (f .tasks)) noTask (omega (arith, g .so-far .tasks-most))) (good-tasks i (g .so-far .tasks) h);

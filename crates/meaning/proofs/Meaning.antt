@@ -11,6 +11,7 @@ use borrow.Author.Tests.{le-leb, ltb-true, lt-ltb}
 use Rattle.basics.specs.Choice.{pick}
 use Rattle.table.specs.declared.Table.{Table}
 use Rattle.table.specs.declared.Refusal.{Refusal}
+use Rattle.table.specs.declared.Resource.{Resource}
 use Rattle.table.specs.declared.Fault.the-variants.{TooLong, BadForm, NoTask, AlphaMissing}
 use Rattle.table.specs.declared.Checked.the-variants.{Fine, Refused}
 use Rattle.table.specs.declared.Reading.{Reading}
@@ -25,7 +26,7 @@ use Rattle.line.specs.Stated.{Without, no-byte, one-byte}
 use Rattle.listing.specs.Lines.{endsInLF}
 use Rattle.listing.specs.Read.{noLines, readEnd, readListing}
 use Rattle.meaning.specs.Figures.{TaskFigures, Figures, StatesFigures, alphasOf, GoodSoFar, GoodFigures, tableOf}
-use Rattle.meaning.specs.Refusals.{leftBy, lineCount}
+use Rattle.meaning.specs.Refusals.{leftAfter, leftBy, nextLine}
 use Rattle.meaning.specs.Meaning.{Correct, Complete, PassesCheck}
 use Rattle.meaning.proofs.SplitLaws.{open-end}
 use Rattle.meaning.proofs.FigureLaws.{good-table}
@@ -67,9 +68,12 @@ end-is {t} {u} past n no-byte q = go (ltb 1 n) refl (ltb 0 (past .tasks)) refl (
 end-is past n (one-byte m r) q = absurd (refused-not refl (rw (open-end (one-byte m r) (omega arith) true) at q))
 
 -- what tasks leave says how many they are, and how many have an alpha
-pub left-counts : (xs : List TaskFigures) → (leftBy xs .tasks ≡ length xs) × (leftBy xs .alphas ≡ alphasOf xs)
-left-counts [] = (refl, refl)
-left-counts (x ∷ xs) = (refl, refl)
+after-counts : (K : Resource) (xs : List TaskFigures) → (leftAfter K xs .tasks ≡ length xs) × (leftAfter K xs .alphas ≡ alphasOf xs)
+after-counts K [] = (refl, refl)
+after-counts K (x ∷ xs) = (refl, refl)
+
+pub left-counts : (f : Figures) → (leftBy f .tasks ≡ length (f .tasks)) × (leftBy f .alphas ≡ alphasOf (f .tasks))
+left-counts f = after-counts _ (f .tasks)
 
 text-right : (s : List ℕ) (t : Table) → readText emptyTable noLines 1 s ≡ accepted t → Right s t
 text-right s t q = go (states-up-to s)
@@ -78,11 +82,11 @@ text-right s t q = go (states-up-to s)
     first (at-end w) = absurd (omega (arith, end-is noLines 1 w (sym (stop-end emptyTable noLines 1 w) ∙ q) .lines))
     first (at-line l rest r e w d) = absurd (refused-not (stop-line emptyTable noLines 1 rest r w d) (rw e at q))
 
-    later : (before left : List ℕ) (f : Figures) → s ≡ before ++ left → StatesFigures before f → GoodSoFar f → Stops (leftBy (f .tasks)) (2 + lineCount (f .tasks)) left
-        → readText (tableOf f) (leftBy (f .tasks)) (2 + lineCount (f .tasks)) left ≡ accepted t → Right s t
+    later : (before left : List ℕ) (f : Figures) → s ≡ before ++ left → StatesFigures before f → GoodSoFar f → Stops (leftBy f) (nextLine f) left
+        → readText (tableOf f) (leftBy f) (nextLine f) left ≡ accepted t → Right s t
     later before left f e states g (at-end w) q =
-        let r = end-is (leftBy (f .tasks)) (2 + lineCount (f .tasks)) w (sym (stop-end (tableOf f) (leftBy (f .tasks)) (2 + lineCount (f .tasks)) w) ∙ q) in
-        let n = left-counts (f .tasks) in (
+        let r = end-is (leftBy f) (nextLine f) w (sym (stop-end (tableOf f) (leftBy f) (nextLine f) w) ∙ q) in
+        let n = left-counts f in (
           f,
           rw (e, r .all, append-nil before) states,
           record { so-far = g; tasks-least = rw (n .0) at (r .some); alphas = all-or-none-is _ _ .0 (rw (n .0, n .1) at (r .alphas)) },
@@ -108,10 +112,10 @@ pub complete : Complete
 unfolding readListing readEnd
 complete s f l a g =
     rw (le-leb (length s) maxListing l)
-    (sym (ap (readText emptyTable noLines 1) (append-nil s)) ∙ figures-read [] a (g .so-far) ∙ stop-end (tableOf f) (leftBy (f .tasks)) (2 + lineCount (f .tasks)) no-byte
-    ∙ (let n = left-counts (f .tasks) in
+    (sym (ap (readText emptyTable noLines 1) (append-nil s)) ∙ figures-read [] a (g .so-far) ∙ stop-end (tableOf f) (leftBy f) (nextLine f) no-byte
+    ∙ (let n = left-counts f in
     rw (
-      lt-ltb 1 (2 + lineCount (f .tasks)) (omega arith),
+      lt-ltb 1 (nextLine f) (omega arith),
       n .0,
       n .1,
       lt-ltb 0 (length (f .tasks)) (g .tasks-least),

@@ -12,12 +12,12 @@ use Rattle.field.proofs.OneNumber.{count-one, time-one}
 use Rattle.line.specs.Fields.{others}
 use Rattle.line.specs.Stated.{IsField, AreFields, none, more, UseFigures}
 use Rattle.line.proofs.LineForm.{line-fields}
-use Rattle.line.proofs.StatedLaws.{count-field, cpus-word, task-word, alpha-word, use-word}
+use Rattle.line.proofs.StatedLaws.{count-field, cpus-word, group-word, task-word, alpha-word, use-word}
 use Rattle.listing.specs.Lines.{lines}
-use Rattle.meaning.specs.Figures.{AlphaFigure, alpha-of, TaskFigures, Figures, StatesAlpha, no-alpha-line, alpha-line, StatesUses, use-line, StatesTasks, task-line, StatesFigures, cpus-line}
+use Rattle.meaning.specs.Figures.{AlphaFigure, alpha-of, TaskFigures, GroupFigures, Figures, StatesGroups, group-line, StatesAlpha, no-alpha-line, alpha-line, StatesUses, use-line, StatesTasks, task-line, StatesFigures, cpus-line}
 use Rattle.meaning.specs.Meaning.{Unambiguous}
 use Rattle.meaning.proofs.SplitLaws.{line-split, begun}
-use Rattle.meaning.proofs.StatesRead.{task-fields, use-fields}
+use Rattle.meaning.proofs.StatesRead.{group-fields, task-fields, use-fields}
 
 -- ---- a text begins with one line, and that has one row of fields
 
@@ -88,7 +88,7 @@ uses-no-alpha : {s : List ℕ} {us : List UseFigures} (rest : List ℕ) → Stat
 uses-no-alpha rest StatesUses.no-use n h = n h
 uses-no-alpha rest (use-line a r) n h = omega arith
 
--- ---- the tasks, and the listing
+-- ---- the tasks
 
 tasks-no-use : {s : List ℕ} {xs : List TaskFigures} → StatesTasks s xs → NoUse s
 tasks-no-use StatesTasks.no-task h = omega arith
@@ -109,12 +109,40 @@ tasks-one (task-line {rest = z} a b p r) (task-line {rest = z'} a' b' p' r') e =
     let x = task-same (time-one (cc (o .same)) (a .period) (a' .period)) (time-one (cc (o .same)) (a .run) (a' .run)) (time-one (cc (o .same)) (a .deadline) (a' .deadline)) (v .same) (u .same) in
     cc (x, tasks-one r r' (u .left))
 
+-- ---- the `group` lines, up to the tasks
+
+-- a text that does not begin as a `group` line does
+abbrev NoGroupLine : List ℕ → Type 0
+NoGroupLine s = firstByte s ≡ 103 → ⊥
+
+tasks-no-group : {s : List ℕ} {xs : List TaskFigures} → StatesTasks s xs → NoGroupLine s
+tasks-no-group StatesTasks.no-task h = omega arith
+tasks-no-group (task-line a b p r) h = omega arith
+
+groups-one : {s t : List ℕ} {xs ys : List GroupFigures} {rest after : List ℕ} → StatesGroups s xs → StatesGroups t ys → NoGroupLine rest → NoGroupLine after
+    → s ++ rest ≡ t ++ after → One xs ys rest after
+groups-one StatesGroups.no-group StatesGroups.no-group p q e = record { same = refl; left = e }
+groups-one StatesGroups.no-group (group-line a r) p q e = absurd (p (ap firstByte e))
+groups-one (group-line a r) StatesGroups.no-group p q e = absurd (q (sym (ap firstByte e)))
+groups-one {rest = rest} {after} (group-line {g} {k} {rest = z} {x} a r) (group-line {g = g'} {k = k'} {rest = z'} {x = x'} a' r') p q e =
+    let o = one-line "group" group-word (group-fields a) (group-fields a')
+    (sym (append-assoc (lineOf "group" (g ∷ k ∷ [])) z rest) ∙ e ∙ append-assoc (lineOf "group" (g' ∷ k' ∷ [])) z' after) in
+    let i = groups-one r r' p q (o .left) in
+    let u : x .G ≡ x' .G = count-one (cc (o .same)) (a .group) (a' .group) in
+    let v : x .K ≡ x' .K = count-one (cc (o .same)) (a .resource) (a' .resource) in
+    let w : x ≡ x' = λ j. record { G = u j; K = v j } in
+    record { same = cc (w, i .same); left = i .left }
+
+-- ---- the listing
+
 figures-one : {s t : List ℕ} {f g : Figures} → StatesFigures s f → StatesFigures t g → s ≡ t → f ≡ g
-figures-one {f = f} {g} (cpus-line a r) (cpus-line a' r') e =
+figures-one {f = f} {g} (cpus-line a b r) (cpus-line a' b' r') e =
     let o = one-line "cpus" cpus-word (more (count-field a) none) (more (count-field a') none) e in
     let c : f .M ≡ g .M = count-one (cc (o .same)) a a' in
-    let t = tasks-one r r' (o .left) in
-    λ j. record { M = c j; tasks = t j }
+    let i = groups-one b b' (tasks-no-group r) (tasks-no-group r') (o .left) in
+    let h = i .same in
+    let t = tasks-one r r' (i .left) in
+    λ j. record { M = c j; groups = h j; tasks = t j }
 
 pub unambiguous : Unambiguous
 unambiguous s f g a b = figures-one a b refl

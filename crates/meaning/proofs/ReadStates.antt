@@ -16,20 +16,20 @@ use Rattle.table.proofs.RuleFacts.{may-follow-is}
 use Rattle.field.specs.declared.Rounding.the-variants.{Down, Up}
 use Rattle.line.specs.declared.Past.{Past}
 use Rattle.line.specs.declared.Said.{Said}
-use Rattle.line.specs.declared.Said.the-variants.{Alpha, Use, Not}
+use Rattle.line.specs.declared.Said.the-variants.{Group, Alpha, Use, Not}
 use Rattle.line.specs.Fields.{others, form}
 use Rattle.line.specs.Line.{countIn, timeIn, lineSays}
 use Rattle.line.specs.Stated.{Without, UseFigures}
 use Rattle.line.proofs.WordLaws.{fieldsFrom, form-line}
 use Rattle.line.proofs.StatedLaws.{others-alone, timeOf, count-in, time-in}
-use Rattle.line.proofs.LineRules.{TaskRules, AlphaRules, UseRules, Line, is-cpus, is-task, is-alpha, is-use, is-not}
+use Rattle.line.proofs.LineRules.{GroupRules, TaskRules, AlphaRules, UseRules, Line, is-cpus, is-group, is-task, is-alpha, is-use, is-not}
 use Rattle.line.proofs.Says.{line-is}
 use Rattle.listing.specs.Lines.{lines}
 use Rattle.listing.specs.Read.{afterTask, pastAfter}
-use Rattle.meaning.specs.Figures.{AlphaFigure, no-alpha, alpha-of, TaskFigures, StatesAlpha, no-alpha-line, alpha-line, StatesUses, use-line, StatesTasks, task-line, GoodUses, GoodAlpha, lastWith, GoodTasks, alphaLines}
+use Rattle.meaning.specs.Figures.{AlphaFigure, no-alpha, alpha-of, TaskFigures, GroupFigures, StatesGroups, group-line, StatesAlpha, no-alpha-line, alpha-line, StatesUses, use-line, StatesTasks, task-line, GoodGroups, GoodUses, GoodAlpha, lastWith, GoodTasks, alphaLines}
 use Rattle.meaning.specs.Refusals.{lineCount}
 use Rattle.meaning.proofs.SplitLaws.{Start, start-of, no-line-of, word-text}
-use Rattle.meaning.proofs.StatesRead.{pastAlpha, pastUses, pastTasks, task-left}
+use Rattle.meaning.proofs.StatesRead.{pastGroups, pastAlpha, pastUses, pastTasks, task-left}
 
 -- where the reading stops: no line that ends is left, or the next one is refused
 pub data Stops (past : Past) (n : ℕ) (s : List ℕ) : Type 0 where
@@ -54,6 +54,16 @@ pub record Stating (past : Past) (n : ℕ) (s : List ℕ) (alpha : AlphaFigure) 
   pub few : past .tasks + length tasks ≤ maxTasks
   pub stops : Stops (pastTasks (pastUses (pastAlpha past alpha) uses) tasks) (n + (alphaLines alpha + length uses + lineCount tasks)) left
 
+-- before any task: groups, and then the same after them, which is without an alpha
+pub record Head (past : Past) (n : ℕ) (s : List ℕ) : Type 0 where
+  pub groups : List GroupFigures
+  pub first : List ℕ
+  pub rest : List ℕ
+  pub text : s ≡ first ++ rest
+  pub states : StatesGroups first groups
+  pub good : GoodGroups (past .group .0) groups
+  pub stating : Stating (pastGroups past groups) (n + length groups) rest no-alpha
+
 -- with whichever alpha it is; where the last task is not fresh there is none
 pub record StatingAny (past : Past) (n : ℕ) (s : List ℕ) : Type 0 where
   pub alpha : AlphaFigure
@@ -64,7 +74,7 @@ abbrev any : {past : Past} {n : ℕ} {s : List ℕ} → Stating past n s no-alph
 any x = record { alpha = no-alpha; stating = x; none = λ e. refl }
 
 -- after a line that leaves no fresh task
-pub without : {past : Past} {n : ℕ} {s : List ℕ} → past .fresh ≡ false → StatingAny past n s → Stating past n s no-alpha
+without : {past : Past} {n : ℕ} {s : List ℕ} → past .fresh ≡ false → StatingAny past n s → Stating past n s no-alpha
 without e x = let y = x .stating in rw (x .none e) at y
 
 own-none : {s : List ℕ} → StatesAlpha s no-alpha → s ≡ []
@@ -93,6 +103,26 @@ module _ (past : Past) (n : ℕ) {s : List ℕ} (m : past .tasks ≤ maxTasks) w
         good-tasks = GoodTasks.no-task;
         few = omega arith;
         stops = rw (add-zero n) x;
+      }
+
+  no-groups : Stating past n s no-alpha → Head past n s
+  no-groups x = record { groups = []; first = []; rest = s; text = refl; states = StatesGroups.no-group; good = GoodGroups.no-group; stating = rw (add-zero n) x }
+
+  group-states : {l : List ℕ} {ls : List (List ℕ)} {G : ℕ} {K : Resource} (a : Start s l ls) → form (bytes "group") 3 l ≡ true
+      → GroupRules past (countIn l 1) (countIn l 2) G K → Head (pastAfter past (Group G K)) (n + 1) (a .rest) → Head past n s
+  unfolding pastAfter
+  group-states {l} {G = G} {K} a f r x =
+      let line = lineOf "group" (fieldsFrom 2 0 (others l)) in
+      let y : GroupFigures = record { G = G; K = K .0 } in
+      let e : n + 1 + length (x .groups) ≡ n + length (y ∷ x .groups) = omega arith in
+      record {
+        groups = y ∷ x .groups;
+        first = line ++ x .first;
+        rest = x .rest;
+        text = a .text ∙ word-text (a .rest) (form-line "group" 2 l (a .clean) f) ∙ rw (x .text, append-assoc line (x .first) (x .rest));
+        states = group-line {x = y} (record { group = count-in (others-alone l 0) (r .group); resource = count-in (others-alone l 1) (r .resource) }) (x .states);
+        good = GoodGroups.one-group {x = y} (r .group-least) (r .group-most) (r .rising) (r .most) (x .good);
+        stating = rw (← e) (x .stating);
       }
 
   task-states : {l : List ℕ} {ls : List (List ℕ)} {T C D : ℕ} (a : Start s l ls) → form (bytes "task") 4 l ≡ true
@@ -180,22 +210,45 @@ module _ (past : Past) (n : ℕ) {s : List ℕ} (m : past .tasks ≤ maxTasks) w
         stops = rw (← e) (x .stops);
       }
 
-pub states-to : (ls : List (List ℕ)) (s : List ℕ) (past : Past) (n : ℕ) → lines s ≡ ls → 1 < n → past .tasks ≤ maxTasks → StatingAny past n s
+-- after a task
+states-to : (ls : List (List ℕ)) (s : List ℕ) (past : Past) (n : ℕ) → lines s ≡ ls → 1 < n → 0 < past .tasks → past .tasks ≤ maxTasks → StatingAny past n s
 unfolding pastAfter
-states-to [] s past n e h m = any (stating-none past n m (at-end (no-line-of s e)))
-states-to (l ∷ ls) s past n e h m = go (lineSays past n l) refl (line-is past n l) (λ past k. states-to ls (a .rest) past (n + 1) (a .left) (omega arith) k)
+states-to [] s past n e h some m = any (stating-none past n m (at-end (no-line-of s e)))
+states-to (l ∷ ls) s past n e h some m = go (lineSays past n l) refl (line-is past n l) (λ past j k. states-to ls (a .rest) past (n + 1) (a .left) (omega arith) j k)
   where
     a : Start s l ls
     a = start-of s l ls e
 
-    go : (x : Said) → lineSays past n l ≡ x → Line past n l x → ((past : Past) → past .tasks ≤ maxTasks → StatingAny past (n + 1) (a .rest)) → StatingAny past n s
+    go : (x : Said) → lineSays past n l ≡ x → Line past n l x → ((past : Past) → 0 < past .tasks → past .tasks ≤ maxTasks → StatingAny past (n + 1) (a .rest)) → StatingAny past n s
     go _ d (is-cpus f e r) ih = absurd (omega arith)
-    go _ d (is-task {C = C} f e r) ih = any (task-states past n m a f r (ih (afterTask past C) (omega (arith, r .room))))
+    go _ d (is-group f h z r) ih = absurd (omega arith)
+    go _ d (is-task {C = C} f e r) ih = any (task-states past n m a f r (ih (afterTask past C) (omega arith) (omega (arith, r .room))))
     go _ d (is-alpha {A} f e r) ih =
         record {
           alpha = alpha-of A;
-          stating = alpha-states past n m a f r (without refl (ih (pastAfter past (Alpha A)) m));
+          stating = alpha-states past n m a f r (without refl (ih (pastAfter past (Alpha A)) some m));
           none = λ q. absurd (true≢false (sym e ∙ q));
         }
-    go _ d (is-use {K} {p} f e r) ih = any (use-states past n m a f r (without refl (ih (pastAfter past (Use K p)) m)))
+    go _ d (is-use {K} {p} f e r) ih = any (use-states past n m a f r (without refl (ih (pastAfter past (Use K p)) some m)))
     go _ d (is-not r) ih = any (stating-none past n m (at-line l (a .rest) r (a .text) (a .clean) d))
+
+-- before any task
+pub heads-to : (ls : List (List ℕ)) (s : List ℕ) (past : Past) (n : ℕ) → lines s ≡ ls → 1 < n → past .tasks ≡ 0 → past .fresh ≡ false → Head past n s
+unfolding pastAfter
+heads-to [] s past n e h z f = no-groups past n (omega arith) (stating-none past n (omega arith) (at-end (no-line-of s e)))
+heads-to (l ∷ ls) s past n e h z f = go (lineSays past n l) refl (line-is past n l) (λ past j k. heads-to ls (a .rest) past (n + 1) (a .left) (omega arith) j k)
+  where
+    a : Start s l ls
+    a = start-of s l ls e
+
+    m : past .tasks ≤ maxTasks
+    m = omega arith
+
+    go : (x : Said) → lineSays past n l ≡ x → Line past n l x → ((past : Past) → past .tasks ≡ 0 → past .fresh ≡ false → Head past (n + 1) (a .rest)) → Head past n s
+    go _ d (is-cpus i e r) ih = absurd (omega arith)
+    go _ d (is-group {G} {K} i e j r) ih = group-states past n m a i r (ih (pastAfter past (Group G K)) z f)
+    go _ d (is-task {C = C} i e r) ih =
+        no-groups past n m (task-states past n m a i r (states-to ls (a .rest) (afterTask past C) (n + 1) (a .left) (omega arith) (omega arith) (omega (arith, r .room))))
+    go _ d (is-alpha i e r) ih = absurd (true≢false (sym e ∙ f))
+    go _ d (is-use i e r) ih = absurd (omega arith)
+    go _ d (is-not r) ih = no-groups past n m (stating-none past n m (at-line l (a .rest) r (a .text) (a .clean) d))

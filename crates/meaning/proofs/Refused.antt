@@ -17,7 +17,7 @@ use Rattle.table.specs.Rules.{allOrNone}
 use Rattle.table.specs.Empty.{emptyTable}
 use Rattle.line.specs.declared.Past.{Past}
 use Rattle.line.specs.declared.Said.{Said}
-use Rattle.line.specs.declared.Said.the-variants.{Cpus, Task as TaskLine, Alpha, Use, Not}
+use Rattle.line.specs.declared.Said.the-variants.{Cpus, Group, Task as TaskLine, Alpha, Use, Not}
 use Rattle.table.specs.declared.Reading.{Reading}
 use Rattle.table.specs.Answers.{accepted, refused}
 use Rattle.listing.specs.Read.{onSaid, readEnd, readLines, readListing}
@@ -40,6 +40,7 @@ end-empty t past n c r = go (c && ltb 1 n) (ltb 0 (past .tasks)) (allOrNone (pas
 said-empty : (said : Said) (x : Reading) (r : Refusal) → (x .answer ≡ Refused r → x .table ≡ emptyTable)
     → onSaid said x .answer ≡ Refused r → onSaid said x .table ≡ emptyTable
 said-empty (Cpus M) x r h e = h e
+said-empty (Group G K) x r h e = h e
 said-empty (TaskLine T C D) x r h e = h e
 said-empty (Alpha A) x r h e = h e
 said-empty (Use K p) x r h e = h e

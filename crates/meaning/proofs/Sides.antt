@@ -48,7 +48,7 @@ tasks-sides (task-line a b p r) zero h = record { T = a .period .rounds; C = a .
 tasks-sides (task-line a b p r) (suc i) h = tasks-sides r i (omega arith)
 
 figures-sides : {s : List ℕ} {f : Figures} → StatesFigures s f → (i : ℕ) → i < length (f .tasks) → TaskSides (taskFigures f i)
-figures-sides (cpus-line a r) i h = tasks-sides r i h
+figures-sides (cpus-line a b r) i h = tasks-sides r i h
 
 -- ---- and is what the table holds
 

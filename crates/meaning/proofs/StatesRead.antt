@@ -11,22 +11,23 @@ use lib.ListN.{length}
 use Rattle.basics.specs.Text.{bytes, lineOf}
 use Rattle.table.specs.declared.Table.{Table}
 use Rattle.table.specs.declared.Reading.{Reading}
+use Rattle.table.specs.declared.Resource.{Resource}
 use Rattle.table.specs.Limits.{maxTasks}
 use Rattle.table.proofs.RuleFacts.{may-follow-is}
 use Rattle.field.specs.Spelling.{Time}
 use Rattle.line.specs.declared.Past.{Past}
 use Rattle.line.specs.declared.Said.{Said}
-use Rattle.line.specs.declared.Said.the-variants.{Task as TaskLine, Alpha, Use}
+use Rattle.line.specs.declared.Said.the-variants.{Group, Task as TaskLine, Alpha, Use}
 use Rattle.line.specs.Line.{lineSays}
-use Rattle.line.specs.Stated.{IsField, AreFields, none, more, IsLine, StatesTask, StatesUse, UseFigures, heldPair}
-use Rattle.line.proofs.StatedLaws.{count-field, time-field, task-word, alpha-word, use-word}
+use Rattle.line.specs.Stated.{IsField, AreFields, none, more, IsLine, StatesGroup, StatesTask, StatesUse, UseFigures, heldPair}
+use Rattle.line.proofs.StatedLaws.{count-field, time-field, group-word, task-word, alpha-word, use-word}
 use Rattle.listing.specs.Lines.{lines, endsInLF}
-use Rattle.listing.specs.Read.{noLines, afterTask, pastAfter, tableAfter, onSaid, readLines}
-use Rattle.meaning.specs.Figures.{AlphaFigure, no-alpha, alpha-of, TaskFigures, StatesAlpha, no-alpha-line, alpha-line, StatesUses, use-line, StatesTasks, task-line, GoodUses, GoodAlpha, lastWith, GoodTasks, alphaLines, alphasOf}
-use Rattle.meaning.specs.Refusals.{lastTask, lastK, sumCT, lastAlphaOf, leftOf, leftBy, lineCount}
+use Rattle.listing.specs.Read.{noLines, afterTask, afterGroup, pastAfter, tableAfter, onSaid, readLines}
+use Rattle.meaning.specs.Figures.{AlphaFigure, no-alpha, alpha-of, TaskFigures, GroupFigures, Figures, StatesGroups, group-line, StatesAlpha, no-alpha-line, alpha-line, StatesUses, use-line, StatesTasks, task-line, GoodGroups, GoodUses, GoodAlpha, lastWith, GoodTasks, alphaLines, alphasOf}
+use Rattle.meaning.specs.Refusals.{lastGroup, lastTask, lastK, sumCT, lastAlphaOf, leftOf, leftAfter, leftBy, lineCount}
 use Rattle.meaning.proofs.SplitLaws.{line-split, line-shut, begun}
-use Rattle.meaning.proofs.SaysLaws.{says-task, says-alpha, says-use}
-use Rattle.meaning.proofs.TableLaws.{storeUses, storeAlpha, storeTasks}
+use Rattle.meaning.proofs.SaysLaws.{says-group, says-task, says-alpha, says-use}
+use Rattle.meaning.proofs.TableLaws.{storeGroups, storeUses, storeAlpha, storeTasks}
 
 abbrev pub readText : Table → Past → ℕ → List ℕ → Reading
 readText t past n s = readLines t past n (lines s) (endsInLF true s)
@@ -40,7 +41,16 @@ line-read word rest t past n x a b says =
     let r = begun word rest a b in
     rw (r .text, line-split rest (r .clean), line-shut rest (r .clean) true, says (r .l) (r .line))
 
--- ---- what an alpha, uses and tasks leave, after what those before them left
+-- ---- what groups, an alpha, uses and tasks leave, after what those before them left
+
+abbrev pub pastGroups : Past → List GroupFigures → Past
+pastGroups past [] = past
+pastGroups past (x ∷ xs) = pastGroups (pastAfter past (Group (x .G) (record { 0 = x .K }))) xs
+
+pub groups-left : (K : ℕ) (xs : List GroupFigures) → pastGroups (afterGroup noLines (record { 0 = K })) xs ≡ afterGroup noLines (record { 0 = lastGroup K xs })
+unfolding pastAfter
+groups-left K [] = refl
+groups-left K (x ∷ xs) = groups-left (x .K) xs
 
 abbrev pub pastAlpha : Past → AlphaFigure → Past
 pastAlpha past no-alpha = past
@@ -51,7 +61,7 @@ pastUses past [] = past
 pastUses past (u ∷ us) = pastUses (pastAfter past (Use (record { 0 = u .K }) (heldPair u))) us
 
 abbrev pub pastTask : Past → TaskFigures → Past
-pastTask past x = leftOf (past .tasks + 1) (past .alphas + alphaLines (x .alpha)) (lastWith (past .alpha) (x .alpha)) x
+pastTask past x = leftOf (past .group) (past .tasks + 1) (past .alphas + alphaLines (x .alpha)) (lastWith (past .alpha) (x .alpha)) x
 
 abbrev pub pastTasks : Past → List TaskFigures → Past
 pastTasks past [] = past
@@ -61,6 +71,7 @@ pastTasks past (x ∷ xs) = pastTasks (pastTask past x) xs
 used : Past → UseFigures → List UseFigures → Past
 used past u us =
     record {
+      group = past .group;
       tasks = past .tasks;
       run = past .run;
       last = record { 0 = lastK (u .K) us };
@@ -83,30 +94,50 @@ unfolding pastAfter used
 task-left past x = go (x .alpha) (x .uses)
   where
     go : (a : AlphaFigure) (us : List UseFigures) → pastUses (pastAlpha (afterTask past (x .C .held)) a) us
-        ≡ leftOf (past .tasks + 1) (past .alphas + alphaLines a) (lastWith (past .alpha) a) (record { T = x .T; C = x .C; D = x .D; alpha = a; uses = us })
+        ≡ leftOf (past .group) (past .tasks + 1) (past .alphas + alphaLines a) (lastWith (past .alpha) a) (record { T = x .T; C = x .C; D = x .D; alpha = a; uses = us })
     go no-alpha [] = rw (add-zero (past .alphas))
     go (alpha-of A) [] = refl
     go no-alpha (u ∷ us) = uses-left (afterTask past (x .C .held)) u us ∙ rw (add-zero (past .alphas), zero-add (sumCT (u ∷ us)))
     go (alpha-of A) (u ∷ us) = uses-left (pastAlpha (afterTask past (x .C .held)) (alpha-of A)) u us ∙ rw (zero-add (sumCT (u ∷ us)))
 
 past-more : (past : Past) (x : TaskFigures) (xs : List TaskFigures)
-    → pastTasks past (x ∷ xs) ≡ leftOf (past .tasks + suc (length xs)) (past .alphas + alphasOf (x ∷ xs)) (lastAlphaOf (past .alpha) (x ∷ xs)) (lastTask x xs)
+    → pastTasks past (x ∷ xs) ≡ leftOf (past .group) (past .tasks + suc (length xs)) (past .alphas + alphasOf (x ∷ xs)) (lastAlphaOf (past .alpha) (x ∷ xs)) (lastTask x xs)
 past-more past x [] = rw (add-zero (alphaLines (x .alpha)))
 past-more past x (y ∷ ys) =
     let n : past .tasks + 1 + suc (length ys) ≡ past .tasks + suc (suc (length ys)) = omega arith in
     let a : past .alphas + alphaLines (x .alpha) + alphasOf (y ∷ ys) ≡ past .alphas + (alphaLines (x .alpha) + alphasOf (y ∷ ys)) = omega arith in
     past-more (pastTask past x) y ys ∙ rw (n, a)
 
-pub past-all : (xs : List TaskFigures) → pastTasks noLines xs ≡ leftBy xs
-past-all [] = refl
-past-all (x ∷ xs) = past-more noLines x xs ∙ rw (zero-add (suc (length xs)), zero-add (alphasOf (x ∷ xs)))
+pub past-after : (K : Resource) (xs : List TaskFigures) → pastTasks (afterGroup noLines K) xs ≡ leftAfter K xs
+past-after K [] = refl
+past-after K (x ∷ xs) = past-more (afterGroup noLines K) x xs ∙ rw (zero-add (suc (length xs)), zero-add (alphasOf (x ∷ xs)))
+
+pub past-all : (f : Figures) → pastTasks (pastGroups noLines (f .groups)) (f .tasks) ≡ leftBy f
+past-all f = ap (λ (past : Past). pastTasks past (f .tasks)) (groups-left 0 (f .groups)) ∙ past-after _ (f .tasks)
 
 -- the fields of a line that states figures
+pub group-fields : {g k : List ℕ} {G K : ℕ} → StatesGroup g k G K → AreFields (g ∷ k ∷ [])
+group-fields s = more (count-field (s .group)) (more (count-field (s .resource)) none)
+
 pub task-fields : {t c d : List ℕ} {x y z : Time} → StatesTask t c d x y z → AreFields (t ∷ c ∷ d ∷ [])
 task-fields s = more (time-field (s .period)) (more (time-field (s .run)) (more (time-field (s .deadline)) none))
 
 pub use-fields : {k n c ct : List ℕ} {u : UseFigures} → StatesUse k n c ct u → AreFields (k ∷ n ∷ c ∷ ct ∷ [])
 use-fields s = more (count-field (s .resource)) (more (count-field (s .requests)) (more (time-field (s .longest)) (more (time-field (s .total)) none)))
+
+-- the groups, and then what follows them
+pub groups-read : {s : List ℕ} {xs : List GroupFigures} (rest : List ℕ) (t : Table) (past : Past) (n : ℕ)
+    → StatesGroups s xs → GoodGroups (past .group .0) xs → 1 < n → past .tasks ≡ 0
+    → readText t past n (s ++ rest) ≡ readText (storeGroups t xs) (pastGroups past xs) (n + length xs) rest
+unfolding pastAfter tableAfter
+groups-read rest t past n StatesGroups.no-group GoodGroups.no-group h e = rw (add-zero n)
+groups-read rest t past n (group-line {g} {k} {rest = z} {x} {xs} a r) (GoodGroups.one-group i j b c q) h e =
+    let said = Group (x .G) (record { 0 = x .K }) in
+    let m : n + suc (length xs) ≡ n + 1 + length xs = omega arith in
+    ap (readText t past n) (append-assoc (lineOf "group" (g ∷ k ∷ [])) z rest)
+    ∙ line-read "group" (z ++ rest) t past n said group-word (group-fields a) (λ l w. says-group past n l w h e a i j b c)
+    ∙ groups-read rest (tableAfter t (past .tasks) said) (pastAfter past said) (n + 1) r q (omega arith) e
+    ∙ rw m
 
 -- the alpha of the last task, and then what follows it
 alpha-read : {s : List ℕ} {a : AlphaFigure} (rest : List ℕ) (t : Table) (past : Past) (n : ℕ) → StatesAlpha s a → GoodAlpha (past .alpha) a → past .fresh ≡ true

@@ -12,15 +12,16 @@ use Rattle.table.specs.declared.Task.{Task}
 use Rattle.table.specs.declared.Table.{Table}
 use Rattle.table.specs.declared.Resource.{Resource}
 use Rattle.table.specs.Limits.{maxTasks}
-use Rattle.table.specs.Empty.{emptyTask}
+use Rattle.table.specs.Empty.{emptyTask, noGroups}
 use Rattle.table.specs.At.{noTask, withAlpha}
-use Rattle.line.specs.declared.Said.the-variants.{Alpha, Task as TaskLine, Use}
+use Rattle.line.specs.declared.Said.the-variants.{Group, Alpha, Task as TaskLine, Use}
 use Rattle.listing.specs.Read.{newTask, withPair, tableAfter}
 use Rattle.basics.specs.Over.{rowTo}
 use Rattle.line.specs.Stated.{UseFigures, heldPair}
-use Rattle.meaning.specs.Figures.{AlphaFigure, no-alpha, alpha-of, TaskFigures, GoodTaskFigures, GoodTasks, heldAlpha, taskOf, taskFor, tableOf}
+use Rattle.meaning.specs.Figures.{AlphaFigure, no-alpha, alpha-of, TaskFigures, GroupFigures, GoodTaskFigures, GoodGroups, GoodTasks, heldAlpha, taskOf, taskFor, tableOf}
 use Rattle.basics.proofs.RowLaws.{row-is}
 use Rattle.meaning.proofs.PairRows.{putPairs, pairs-stored}
+use Rattle.meaning.proofs.GroupRows.{putGroups, groups-stored}
 
 -- ---- the tasks, stored one after another
 
@@ -54,8 +55,19 @@ tasks-stored xs l =
 
 -- ---- the table, stored line by line
 
-abbrev pub table : ℕ → ℕ → List Task → Table
-table m n row = record { cpus = m; n = n; tasks = row }
+abbrev pub table : ℕ → List ℕ → ℕ → List Task → Table
+table m groups n row = record { cpus = m; n = n; groups = groups; tasks = row }
+
+-- before any task
+abbrev pub storeGroups : Table → List GroupFigures → Table
+storeGroups t [] = t
+storeGroups t (x ∷ xs) = storeGroups (tableAfter t 0 (Group (x .G) (record { 0 = x .K }))) xs
+
+heads-stored : (m : ℕ) (groups : List ℕ) (n : ℕ) (row : List Task) (xs : List GroupFigures)
+    → storeGroups (table m groups n row) xs ≡ table m (putGroups groups xs) n row
+unfolding tableAfter
+heads-stored m groups n row [] = refl
+heads-stored m groups n row (x ∷ xs) = heads-stored m (set groups (x .K - 1) (x .G)) n row xs
 
 -- after `tasks` tasks
 abbrev pub storeUses : Table → ℕ → List UseFigures → Table
@@ -75,20 +87,20 @@ storeTasks t tasks (x ∷ xs) =
 abbrev withPairs : Task → List Pair → Task
 withPairs x ps = record { period = x .period; run = x .run; deadline = x .deadline; alpha = x .alpha; pairs = ps }
 
-module _ (m n i : ℕ) (row : List Task) (h : i < length row) where
-  use-stored : (x : Task) (K : Resource) (p : Pair) → tableAfter (table m n (set row i x)) (i + 1) (Use K p) ≡ table m n (set row i (withPair x (K .0 - 1) p))
+module _ (m : ℕ) (groups : List ℕ) (n i : ℕ) (row : List Task) (h : i < length row) where
+  use-stored : (x : Task) (K : Resource) (p : Pair) → tableAfter (table m groups n (set row i x)) (i + 1) (Use K p) ≡ table m groups n (set row i (withPair x (K .0 - 1) p))
   unfolding tableAfter
   use-stored x K p =
       let e : i + 1 - 1 ≡ i = omega arith in
       rw (e, getD-set-same row i x noTask h, set-set row i x (withPair x (K .0 - 1) p))
 
-  uses-stored : (x : Task) (us : List UseFigures) → storeUses (table m n (set row i x)) (i + 1) us ≡ table m n (set row i (withPairs x (putPairs (x .pairs) us)))
+  uses-stored : (x : Task) (us : List UseFigures) → storeUses (table m groups n (set row i x)) (i + 1) us ≡ table m groups n (set row i (withPairs x (putPairs (x .pairs) us)))
   uses-stored x [] = refl
   uses-stored x (u ∷ us) =
       ap (λ (t : Table). storeUses t (i + 1) us) (use-stored x (record { 0 = u .K }) (heldPair u)) ∙ uses-stored (withPair x (u .K - 1) (heldPair u)) us
 
   alpha-stored : (T C D : ℕ) (a : AlphaFigure)
-      → storeAlpha (table m n (set row i (newTask T C D))) (i + 1) a ≡ table m n (set row i (withAlpha (heldAlpha a) (newTask T C D)))
+      → storeAlpha (table m groups n (set row i (newTask T C D))) (i + 1) a ≡ table m groups n (set row i (withAlpha (heldAlpha a) (newTask T C D)))
   unfolding tableAfter newTask
   alpha-stored T C D no-alpha = refl
   alpha-stored T C D (alpha-of A) =
@@ -96,23 +108,26 @@ module _ (m n i : ℕ) (row : List Task) (h : i < length row) where
       rw (e, getD-set-same row i (newTask T C D) noTask h, set-set row i (newTask T C D) (withAlpha A (newTask T C D)))
 
   task-stored : (x : TaskFigures) → GoodTaskFigures x
-      → storeUses (storeAlpha (table m n (set row i (newTask (x .T .held) (x .C .held) (x .D .held)))) (i + 1) (x .alpha)) (i + 1) (x .uses) ≡ table m n (set row i (taskOf x))
+      → storeUses (storeAlpha (table m groups n (set row i (newTask (x .T .held) (x .C .held) (x .D .held)))) (i + 1) (x .alpha)) (i + 1) (x .uses) ≡ table m groups n (set row i (taskOf x))
   unfolding taskOf newTask
   task-stored x g =
       let y = withAlpha (heldAlpha (x .alpha)) (newTask (x .T .held) (x .C .held) (x .D .held)) in
       ap (λ (t : Table). storeUses t (i + 1) (x .uses)) (alpha-stored (x .T .held) (x .C .held) (x .D .held) (x .alpha))
       ∙ uses-stored y (x .uses) ∙ rw (pairs-stored (g .uses))
 
-rows-stored : (m i : ℕ) (row : List Task) {last : ℕ} {xs : List TaskFigures} → GoodTasks last xs → i + length xs ≤ length row
-    → storeTasks (table m i row) i xs ≡ table m (i + length xs) (putTasks row i xs)
+rows-stored : (m : ℕ) (groups : List ℕ) (i : ℕ) (row : List Task) {last : ℕ} {xs : List TaskFigures} → GoodTasks last xs → i + length xs ≤ length row
+    → storeTasks (table m groups i row) i xs ≡ table m groups (i + length xs) (putTasks row i xs)
 unfolding tableAfter
-rows-stored m i row GoodTasks.no-task l = rw add-zero
-rows-stored m i row (GoodTasks.one-task {x = x} {xs} g a r) l =
+rows-stored m groups i row GoodTasks.no-task l = rw add-zero
+rows-stored m groups i row (GoodTasks.one-task {x = x} {xs} g a r) l =
     let e : i + suc (length xs) ≡ i + 1 + length xs = omega arith in
-    ap (λ (t : Table). storeTasks t (i + 1) xs) (task-stored m (i + 1) i row (omega arith) x g)
-    ∙ rw e (rows-stored m (i + 1) (set row i (taskOf x)) r (omega (arith, length-set row i (taskOf x))))
+    ap (λ (t : Table). storeTasks t (i + 1) xs) (task-stored m groups (i + 1) i row (omega arith) x g)
+    ∙ rw e (rows-stored m groups (i + 1) (set row i (taskOf x)) r (omega (arith, length-set row i (taskOf x))))
 
-pub stored : (M : ℕ) {last : ℕ} {xs : List TaskFigures} → GoodTasks last xs → length xs ≤ maxTasks
-    → storeTasks (table M 0 (replicate maxTasks emptyTask)) 0 xs ≡ tableOf (record { M = M; tasks = xs })
+pub stored : (M : ℕ) {last : ℕ} {gs : List GroupFigures} {xs : List TaskFigures} → GoodGroups 0 gs → GoodTasks last xs → length xs ≤ maxTasks
+    → storeTasks (storeGroups (table M noGroups 0 (replicate maxTasks emptyTask)) gs) 0 xs ≡ tableOf (record { M = M; groups = gs; tasks = xs })
 unfolding tableOf
-stored M {xs = xs} g l = rows-stored M 0 (replicate maxTasks emptyTask) g (omega arith) ∙ rw (zero-add, tasks-stored xs l)
+stored M {gs = gs} {xs} h g l =
+    let row = replicate maxTasks emptyTask in
+    ap (λ (t : Table). storeTasks t 0 xs) (heads-stored M noGroups 0 row gs) ∙ rows-stored M (putGroups noGroups gs) 0 row g (omega arith)
+    ∙ rw (zero-add, tasks-stored xs l, groups-stored h)

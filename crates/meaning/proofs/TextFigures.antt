@@ -19,7 +19,7 @@ use Rattle.table.specs.declared.Task.{Task}
 use Rattle.table.specs.declared.Table.{Table}
 use Rattle.table.specs.Limits.{maxTasks, maxResources, maxAlpha}
 use Rattle.table.specs.Empty.{unusedPair, emptyTask}
-use Rattle.table.specs.At.{taskAt, alphaAt, pairOf, totalOf}
+use Rattle.table.specs.At.{taskAt, alphaAt, groupAt, pairOf, totalOf}
 use Rattle.table.specs.Rules.{alphasTo}
 use Rattle.table.proofs.RuleFacts.{all-or-none-is}
 use Rattle.table.proofs.AlphaLaws.{holds-unless, some-only-is, all-or-none}
@@ -27,11 +27,14 @@ use Rattle.table.specs.Accepted.{GoodPair, GoodTask, Accepted}
 use Rattle.field.specs.declared.Rounding.the-variants.{Down, Up}
 use Rattle.line.specs.Stated.{UseFigures}
 use Rattle.meaning.proofs.FieldBack.{count-text, exactly, time-text}
-use Rattle.meaning.specs.Figures.{AlphaFigure, no-alpha, alpha-of, TaskFigures, Figures, StatesAlpha, no-alpha-line, alpha-line, StatesUses, StatesTasks, StatesFigures, cpus-line, GoodUses, GoodAlpha, lastWith, GoodTasks, alphaLines, alphasOf, GoodFigures, heldAlpha, pairFor, taskOf, taskFor, tableOf}
-use Rattle.writing.specs.Write.{useText, pairText, timesText, alphaText, ownText, taskText, textOf}
+use Rattle.meaning.specs.Figures.{AlphaFigure, no-alpha, alpha-of, TaskFigures, Figures, StatesAlpha, no-alpha-line, alpha-line, StatesUses, StatesTasks, StatesFigures, cpus-line, GoodUses, GoodAlpha, lastWith, GoodTasks, alphaLines, alphasOf, GoodFigures, heldAlpha, groupFor, pairFor, taskOf, taskFor, tableOf}
+use Rattle.basics.specs.Text.{lineOf}
+use Rattle.put.specs.Text.{countText}
+use Rattle.writing.specs.Write.{useText, pairText, timesText, alphaText, ownText, taskText, memberText, headText, textOf}
 use Rattle.writing.proofs.WriteLaws.{alpha-none, alpha-some}
 use Rattle.table.specs.Cleared.{clearedTask, cleared}
 use Rattle.basics.proofs.RowLaws.{row-eq}
+use Rattle.meaning.proofs.TextGroups.{groups-from}
 
 -- ---- a task's uses
 
@@ -179,14 +182,16 @@ tasks-from t a =
 -- ---- the whole text
 
 pub text-states : (t : Table) → Accepted t → (f : Figures) × StatesFigures (textOf t) f × GoodFigures f × (cleared t ≡ tableOf f)
-unfolding textOf tableOf cleared sumTo
+unfolding textOf headText tableOf cleared sumTo
 text-states t a =
     let r = tasks-from t a in
+    let h = groups-from t a in
     let e : t .n ≡ length (r .tasks) = omega arith in
     let b : alphasTo t (t .n) ≡ alphasOf (r .tasks) = omega (arith, r .alphas) in
     let c = all-or-none-is (alphasTo t (t .n)) (t .n) .0 (holds-unless _ (some-only-is t) .1 (all-or-none t .1 (a .all-or-none))) in (
-      record { M = t .cpus; tasks = r .tasks },
-      cpus-line (count-text (t .cpus) (omega arith)) (r .states),
-      record { so-far = record { cpus-least = a .cpus-least; cpus-most = a .cpus-most; tasks-most = omega arith; tasks = r .good 0 (λ h. inl refl) }; tasks-least = omega arith; alphas = rw (← e, ← b) c },
-      rw (← row-eq maxTasks (taskFor (r .tasks)) _ (λ i h. r .at i i (omega arith)), ← e),
+      record { M = t .cpus; groups = h .groups; tasks = r .tasks },
+      rw (append-assoc (lineOf "cpus" (countText (t .cpus) ∷ [])) (joinTo maxResources (memberText (t .groups))) (joinTo (t .n) (λ i. taskText (taskAt t i))))
+          (cpus-line (count-text (t .cpus) (omega arith)) (h .states) (r .states)),
+      record { so-far = record { cpus-least = a .cpus-least; cpus-most = a .cpus-most; groups = h .good 0 (omega arith); tasks-most = omega arith; tasks = r .good 0 (λ h. inl refl) }; tasks-least = omega arith; alphas = rw (← e, ← b) c },
+      rw (← row-eq maxTasks (taskFor (r .tasks)) _ (λ i h. r .at i i (omega arith)), ← row-eq maxResources (groupFor (h .groups)) (groupAt t) (λ k l. h .at k (omega arith) l), ← e),
     )

@@ -12,11 +12,11 @@ use Rattle.basics.specs.Text.{lineOf}
 use Rattle.table.specs.declared.Pair.{Pair}
 use Rattle.table.specs.declared.Task.{Task}
 use Rattle.table.specs.declared.Table.{Table}
-use Rattle.table.specs.Limits.{maxCpus, maxTasks, maxResources, maxAlpha}
+use Rattle.table.specs.Limits.{maxCpus, maxTasks, maxResources, maxGroup, maxAlpha}
 use Rattle.table.specs.Empty.{emptyTask}
 use Rattle.table.specs.Accepted.{GoodTimes, GoodPair}
 use Rattle.field.specs.Spelling.{Time, StatesCount}
-use Rattle.line.specs.Stated.{StatesTask, UseFigures, StatesUse, heldPair}
+use Rattle.line.specs.Stated.{StatesGroup, StatesTask, UseFigures, StatesUse, heldPair}
 
 -- ---- figures
 
@@ -41,11 +41,22 @@ pub record TaskFigures : Type 0 where
 abbrev pub noFigures : TaskFigures
 noFigures = record { T = noTime; C = noTime; D = noTime; alpha = no-alpha; uses = [] }
 
+-- G and K of a `group` line (document 02, 9/12)
+pub record GroupFigures : Type 0 where
+  pub G : ℕ
+  pub K : ℕ
+
 pub record Figures : Type 0 where
   pub M : ℕ
+  pub groups : List GroupFigures
   pub tasks : List TaskFigures
 
--- ---- which listings state them: `cpus M`, then each task, "right after" it its `alpha` line if it has one, followed by its `use` lines
+-- ---- which listings state them: `cpus M`, "after" it the `group` lines, then each task, "right after" it its `alpha` line if it has one, followed by its `use` lines
+
+pub data StatesGroups : List ℕ → List GroupFigures → Type 0 where
+  no-group : StatesGroups [] []
+  group-line : {g k rest : List ℕ} {x : GroupFigures} {xs : List GroupFigures}
+      → StatesGroup g k (x .G) (x .K) → StatesGroups rest xs → StatesGroups (lineOf "group" (g ∷ k ∷ []) ++ rest) (x ∷ xs)
 
 pub data StatesAlpha : List ℕ → AlphaFigure → Type 0 where
   no-alpha-line : StatesAlpha [] no-alpha
@@ -63,10 +74,16 @@ pub data StatesTasks : List ℕ → List TaskFigures → Type 0 where
       → StatesTasks (lineOf "task" (t ∷ c ∷ d ∷ []) ++ (alpha ++ (uses ++ rest))) (x ∷ xs)
 
 pub data StatesFigures : List ℕ → Figures → Type 0 where
-  cpus-line : {m rest : List ℕ} {f : Figures} → StatesCount m (f .M) → StatesTasks rest (f .tasks)
-      → StatesFigures (lineOf "cpus" (m ∷ []) ++ rest) f
+  cpus-line : {m groups rest : List ℕ} {f : Figures} → StatesCount m (f .M) → StatesGroups groups (f .groups) → StatesTasks rest (f .tasks)
+      → StatesFigures (lineOf "cpus" (m ∷ []) ++ (groups ++ rest)) f
 
 -- ---- the rules that they obey ("Quantities"): "4, 5 and 7 are decided on the rounded values"
+
+-- "both .. 1 to 16", and K above the K of the group line before, which is `last`, 0 where there is none
+pub data GoodGroups : ℕ → List GroupFigures → Type 0 where
+  no-group : {last : ℕ} → GoodGroups last []
+  one-group : {last : ℕ} {x : GroupFigures} {xs : List GroupFigures}
+      → 1 ≤ x .G → x .G ≤ maxGroup → last < x .K → x .K ≤ maxResources → GoodGroups (x .K) xs → GoodGroups last (x ∷ xs)
 
 -- the uses of a task with run time C, after one of resource `last`, with the CT so far
 pub data GoodUses (C : ℕ) : ℕ → ℕ → List UseFigures → Type 0 where
@@ -108,6 +125,7 @@ alphasOf (x ∷ xs) = alphaLines (x .alpha) + alphasOf xs
 pub record GoodSoFar (f : Figures) : Type 0 where
   pub cpus-least : 1 ≤ f .M
   pub cpus-most : f .M ≤ maxCpus
+  pub groups : GoodGroups 0 (f .groups)
   pub tasks-most : length (f .tasks) ≤ maxTasks
   pub tasks : GoodTasks 0 (f .tasks)
 
@@ -118,6 +136,11 @@ pub record GoodFigures (f : Figures) : Type 0 where
   pub alphas : (alphasOf (f .tasks) ≡ 0) ⊎ (alphasOf (f .tasks) ≡ length (f .tasks))
 
 -- ---- the table that holds them, and zeros
+
+-- the group that is stated for resource k + 1, 0 where no line states one
+abbrev pub groupFor : List GroupFigures → ℕ → ℕ
+groupFor [] k = 0
+groupFor (x ∷ xs) k = pick (eqb (x .K) (suc k)) (x .G) (groupFor xs k)
 
 -- the figures for resource k + 1, zeros where no line has it
 abbrev pub useFor : List UseFigures → ℕ → UseFigures
@@ -143,4 +166,4 @@ taskFor (x ∷ xs) zero = taskOf x
 taskFor (x ∷ xs) (suc i) = taskFor xs i
 
 unfoldable pub tableOf : Figures → Table
-tableOf f = record { cpus = f .M; n = length (f .tasks); tasks = rowTo maxTasks (taskFor (f .tasks)) }
+tableOf f = record { cpus = f .M; n = length (f .tasks); groups = rowTo maxResources (groupFor (f .groups)); tasks = rowTo maxTasks (taskFor (f .tasks)) }
