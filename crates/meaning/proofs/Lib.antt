@@ -7,7 +7,8 @@
 --   AlphaLaws     the alphas of good figures, as the table holds them
 --   FigureLaws    good figures make an accepted table
 --   StatesRead    lines that state figures are read to their end
---   ReadStates    of every text a first part states figures
+--   ReadStates    of every text after a task a first part states figures
+--   HeadStates    and of every text after `cpus`
 --   UpTo          how far a listing states figures, and what is read of it up to there
 --   Meaning       correct, complete, passes-check
 --   OneReading    unambiguous
@@ -28,6 +29,7 @@ pub mod AlphaLaws
 pub mod FigureLaws
 pub mod StatesRead
 pub mod ReadStates
+pub mod HeadStates
 pub mod UpTo
 pub mod Meaning
 pub mod OneReading

@@ -1,4 +1,4 @@
--- How far lines state figures: of every text a first part does, after what the lines before it left, and the reading stops behind it.
+-- How far lines after a task's state figures: of every text a first part does, after what the lines before it left, and the reading stops behind it.
 -- Assumes nothing.
 use Prim.Native.Nat.{ℕ, _+_, _≤_, _<_}
 use mathlib.Core.Path.{_≡_, refl, sym, ap, _∙_}
@@ -16,20 +16,20 @@ use Rattle.table.proofs.RuleFacts.{may-follow-is}
 use Rattle.field.specs.declared.Rounding.the-variants.{Down, Up}
 use Rattle.line.specs.declared.Past.{Past}
 use Rattle.line.specs.declared.Said.{Said}
-use Rattle.line.specs.declared.Said.the-variants.{Group, Alpha, Use, Not}
+use Rattle.line.specs.declared.Said.the-variants.{Alpha, Use, Not}
 use Rattle.line.specs.Fields.{others, form}
 use Rattle.line.specs.Line.{countIn, timeIn, lineSays}
 use Rattle.line.specs.Stated.{Without, UseFigures}
 use Rattle.line.proofs.WordLaws.{fieldsFrom, form-line}
 use Rattle.line.proofs.StatedLaws.{others-alone, timeOf, count-in, time-in}
-use Rattle.line.proofs.LineRules.{GroupRules, TaskRules, AlphaRules, UseRules, Line, is-cpus, is-group, is-task, is-alpha, is-use, is-not}
+use Rattle.line.proofs.LineRules.{TaskRules, AlphaRules, UseRules, Line, is-cpus, is-group, is-task, is-alpha, is-use, is-not}
 use Rattle.line.proofs.Says.{line-is}
 use Rattle.listing.specs.Lines.{lines}
 use Rattle.listing.specs.Read.{afterTask, pastAfter}
-use Rattle.meaning.specs.Figures.{AlphaFigure, no-alpha, alpha-of, TaskFigures, GroupFigures, StatesGroups, group-line, StatesAlpha, no-alpha-line, alpha-line, StatesUses, use-line, StatesTasks, task-line, GoodGroups, GoodUses, GoodAlpha, lastWith, GoodTasks, alphaLines}
+use Rattle.meaning.specs.Figures.{AlphaFigure, no-alpha, alpha-of, TaskFigures, StatesAlpha, no-alpha-line, alpha-line, StatesUses, use-line, StatesTasks, task-line, GoodUses, GoodAlpha, lastWith, GoodTasks, alphaLines}
 use Rattle.meaning.specs.Refusals.{lineCount}
 use Rattle.meaning.proofs.SplitLaws.{Start, start-of, no-line-of, word-text}
-use Rattle.meaning.proofs.StatesRead.{pastGroups, pastAlpha, pastUses, pastTasks, task-left}
+use Rattle.meaning.proofs.StatesRead.{pastAlpha, pastUses, pastTasks, task-left}
 
 -- where the reading stops: no line that ends is left, or the next one is refused
 pub data Stops (past : Past) (n : ℕ) (s : List ℕ) : Type 0 where
@@ -54,16 +54,6 @@ pub record Stating (past : Past) (n : ℕ) (s : List ℕ) (alpha : AlphaFigure) 
   pub few : past .tasks + length tasks ≤ maxTasks
   pub stops : Stops (pastTasks (pastUses (pastAlpha past alpha) uses) tasks) (n + (alphaLines alpha + length uses + lineCount tasks)) left
 
--- before any task: groups, and then the same after them, which is without an alpha
-pub record Head (past : Past) (n : ℕ) (s : List ℕ) : Type 0 where
-  pub groups : List GroupFigures
-  pub first : List ℕ
-  pub rest : List ℕ
-  pub text : s ≡ first ++ rest
-  pub states : StatesGroups first groups
-  pub good : GoodGroups (past .group .0) groups
-  pub stating : Stating (pastGroups past groups) (n + length groups) rest no-alpha
-
 -- with whichever alpha it is; where the last task is not fresh there is none
 pub record StatingAny (past : Past) (n : ℕ) (s : List ℕ) : Type 0 where
   pub alpha : AlphaFigure
@@ -85,7 +75,7 @@ no-own x = x .text ∙ rw (own-none (x .states-alpha))
 
 module _ (past : Past) (n : ℕ) {s : List ℕ} (m : past .tasks ≤ maxTasks) where
   -- nothing is stated, and it stops at once
-  stating-none : Stops past n s → Stating past n s no-alpha
+  pub stating-none : Stops past n s → Stating past n s no-alpha
   stating-none x =
       record {
         uses = [];
@@ -105,27 +95,7 @@ module _ (past : Past) (n : ℕ) {s : List ℕ} (m : past .tasks ≤ maxTasks) w
         stops = rw (add-zero n) x;
       }
 
-  no-groups : Stating past n s no-alpha → Head past n s
-  no-groups x = record { groups = []; first = []; rest = s; text = refl; states = StatesGroups.no-group; good = GoodGroups.no-group; stating = rw (add-zero n) x }
-
-  group-states : {l : List ℕ} {ls : List (List ℕ)} {G : ℕ} {K : Resource} (a : Start s l ls) → form (bytes "group") 3 l ≡ true
-      → GroupRules past (countIn l 1) (countIn l 2) G K → Head (pastAfter past (Group G K)) (n + 1) (a .rest) → Head past n s
-  unfolding pastAfter
-  group-states {l} {G = G} {K} a f r x =
-      let line = lineOf "group" (fieldsFrom 2 0 (others l)) in
-      let y : GroupFigures = record { G = G; K = K .0 } in
-      let e : n + 1 + length (x .groups) ≡ n + length (y ∷ x .groups) = omega arith in
-      record {
-        groups = y ∷ x .groups;
-        first = line ++ x .first;
-        rest = x .rest;
-        text = a .text ∙ word-text (a .rest) (form-line "group" 2 l (a .clean) f) ∙ rw (x .text, append-assoc line (x .first) (x .rest));
-        states = group-line {x = y} (record { group = count-in (others-alone l 0) (r .group); resource = count-in (others-alone l 1) (r .resource) }) (x .states);
-        good = GoodGroups.one-group {x = y} (r .group-least) (r .group-most) (r .rising) (r .most) (x .good);
-        stating = rw (← e) (x .stating);
-      }
-
-  task-states : {l : List ℕ} {ls : List (List ℕ)} {T C D : ℕ} (a : Start s l ls) → form (bytes "task") 4 l ≡ true
+  pub task-states : {l : List ℕ} {ls : List (List ℕ)} {T C D : ℕ} (a : Start s l ls) → form (bytes "task") 4 l ≡ true
       → TaskRules past (timeIn Down l 1) (timeIn Up l 2) (timeIn Down l 3) T C D → StatingAny (afterTask past C) (n + 1) (a .rest) → Stating past n s no-alpha
   task-states {l} {T = T} {C} {D} a f r z =
       let x = z .stating in
@@ -211,7 +181,7 @@ module _ (past : Past) (n : ℕ) {s : List ℕ} (m : past .tasks ≤ maxTasks) w
       }
 
 -- after a task
-states-to : (ls : List (List ℕ)) (s : List ℕ) (past : Past) (n : ℕ) → lines s ≡ ls → 1 < n → 0 < past .tasks → past .tasks ≤ maxTasks → StatingAny past n s
+pub states-to : (ls : List (List ℕ)) (s : List ℕ) (past : Past) (n : ℕ) → lines s ≡ ls → 1 < n → 0 < past .tasks → past .tasks ≤ maxTasks → StatingAny past n s
 unfolding pastAfter
 states-to [] s past n e h some m = any (stating-none past n m (at-end (no-line-of s e)))
 states-to (l ∷ ls) s past n e h some m = go (lineSays past n l) refl (line-is past n l) (λ past j k. states-to ls (a .rest) past (n + 1) (a .left) (omega arith) j k)
@@ -231,24 +201,3 @@ states-to (l ∷ ls) s past n e h some m = go (lineSays past n l) refl (line-is 
         }
     go _ d (is-use {K} {p} f e r) ih = any (use-states past n m a f r (without refl (ih (pastAfter past (Use K p)) some m)))
     go _ d (is-not r) ih = any (stating-none past n m (at-line l (a .rest) r (a .text) (a .clean) d))
-
--- before any task
-pub heads-to : (ls : List (List ℕ)) (s : List ℕ) (past : Past) (n : ℕ) → lines s ≡ ls → 1 < n → past .tasks ≡ 0 → past .fresh ≡ false → Head past n s
-unfolding pastAfter
-heads-to [] s past n e h z f = no-groups past n (omega arith) (stating-none past n (omega arith) (at-end (no-line-of s e)))
-heads-to (l ∷ ls) s past n e h z f = go (lineSays past n l) refl (line-is past n l) (λ past j k. heads-to ls (a .rest) past (n + 1) (a .left) (omega arith) j k)
-  where
-    a : Start s l ls
-    a = start-of s l ls e
-
-    m : past .tasks ≤ maxTasks
-    m = omega arith
-
-    go : (x : Said) → lineSays past n l ≡ x → Line past n l x → ((past : Past) → past .tasks ≡ 0 → past .fresh ≡ false → Head past (n + 1) (a .rest)) → Head past n s
-    go _ d (is-cpus i e r) ih = absurd (omega arith)
-    go _ d (is-group {G} {K} i e j r) ih = group-states past n m a i r (ih (pastAfter past (Group G K)) z f)
-    go _ d (is-task {C = C} i e r) ih =
-        no-groups past n m (task-states past n m a i r (states-to ls (a .rest) (afterTask past C) (n + 1) (a .left) (omega arith) (omega arith) (omega (arith, r .room))))
-    go _ d (is-alpha i e r) ih = absurd (true≢false (sym e ∙ f))
-    go _ d (is-use i e r) ih = absurd (omega arith)
-    go _ d (is-not r) ih = no-groups past n m (stating-none past n m (at-line l (a .rest) r (a .text) (a .clean) d))

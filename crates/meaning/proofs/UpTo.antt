@@ -30,7 +30,8 @@ use Rattle.meaning.proofs.SplitLaws.{Start, start-of, no-line-of, no-li
 use Rattle.meaning.proofs.SaysLaws.{says-cpus}
 use Rattle.meaning.proofs.TableLaws.{stored}
 use Rattle.meaning.proofs.StatesRead.{readText, line-read, pastGroups, groups-left, groups-read, tasks-read, past-after, past-all}
-use Rattle.meaning.proofs.ReadStates.{Stops, at-end, at-line, Stating, Head, no-own, heads-to}
+use Rattle.meaning.proofs.ReadStates.{Stops, at-end, at-line, Stating, no-own}
+use Rattle.meaning.proofs.HeadStates.{Head, heads-to}
 
 -- ---- how far a listing states figures
 
