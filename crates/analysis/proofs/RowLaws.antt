@@ -8,9 +8,9 @@
 --     row-fine, row-refused     the row then; and where anything is said, it is as it was
 --     row-record                the record of each task that is written
 --     row-past, row-long        past them the row is as it was, and it is as long as it was
---     read-asks, read-record    of the table that is read, where the one that was given is fine: it is in bounds and has that task, and the task's record is the given one's
+--     asks-read, record-read    of the table that is read, where the one that was given is fine: it is in bounds and has that task, and the task's record is the given one's
 -- Assumes nothing.
-use mathlib.Core.Path.{_≡_, refl, sym, _∙_, ap, subst}
+use mathlib.Core.Path.{_≡_, refl, _∙_, ap}
 use Prim.Native.Nat.{ℕ, _≤_, _<_, zero-le}
 use native.Mathlib.Nat.{not-suc-le-zero}
 use native.Mathlib.Omega.{arith}
@@ -36,7 +36,7 @@ use Rattle.table.proofs.Acceptance.{fine-accepted}
 use Rattle.theory.specs.Merge.{merged}
 use Rattle.theory.specs.Groups.{InBounds}
 use Rattle.theory.specs.Tables.{viewOf}
-use Rattle.theory.proofs.MergeLaws.{merged-n, merged-bounds}
+use Rattle.merging.proofs.ReadLaws.{read-merged, read-asks}
 use Rattle.analysis.specs.declared.Record.{Record}
 use Rattle.analysis.specs.Answers.{allowanceFault, boundFault, analysisFault, orNone, recordCount, recordBy, recordOf, readTable, analysed}
 
@@ -127,12 +127,9 @@ module _ (t : Table) (allowance : ℕ) (ys : List Record) where
 
 -- ---- the table that is read
 
-read-fine : (t : Table) → tableFault t ≡ Fine → readTable t ≡ merged t
-read-fine t e = ap (λ (a : Checked). orTable a (merged t) .table) e
-
 module _ (t : Table) {m : Table} (i : ℕ) (read : m ≡ readTable t) where
-  pub read-asks : (tableFault t ≡ Fine) × (i < t .n) → InBounds m × (i < m .n)
-  read-asks a = subst (λ (x : Table). InBounds x × (i < x .n)) (sym (read ∙ read-fine t (a .0))) (merged-bounds t (a .0), rw (merged-n t) (a .1))
+  pub asks-read : (tableFault t ≡ Fine) × (i < t .n) → InBounds m × (i < m .n)
+  asks-read a = rw read (read-asks t refl (a .0) (a .1))
 
-  pub read-record : (allowance : ℕ) → tableFault t ≡ Fine → recordBy (viewOf m) allowance i ≡ recordOf t allowance i
-  read-record allowance e = ap (λ (x : Table). recordBy (viewOf x) allowance i) (read ∙ read-fine t e)
+  pub record-read : (allowance : ℕ) → tableFault t ≡ Fine → recordBy (viewOf m) allowance i ≡ recordOf t allowance i
+  record-read allowance e = ap (λ (x : Table). recordBy (viewOf x) allowance i) (read ∙ read-merged t refl e)

@@ -10,7 +10,7 @@ use Rattle.table.specs.Rules.{tableFault}
 use Rattle.table.specs.Answers.{orTable}
 use Rattle.theory.specs.Merge.{merged}
 use Rattle.theory.specs.Groups.{InBounds}
-use Rattle.theory.proofs.MergeLaws.{merged-n, merged-bounds}
+use Rattle.theory.proofs.MergeLaws.{merged-bounds}
 
 own-of : (c : Checked) (t : Table) → orTable c t .answer ≡ c
 own-of Fine t = refl
@@ -28,4 +28,4 @@ module _ (t : Table) {r : Reading} (e : r ≡ orTable (tableFault t) (merged t))
     read-bounds = rw read-merged (merged-bounds t fine)
 
     pub read-asks : {i : ℕ} → i < t .n → InBounds (r .table) × (i < r .table .n)
-    read-asks h = (read-bounds, rw (read-merged, merged-n t) h)
+    read-asks h = (read-bounds, rw read-merged h)

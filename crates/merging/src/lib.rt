@@ -7,7 +7,7 @@ ghost use Rattle.table.specs.At.{aPair};
 ghost use Rattle.table.specs.Rules.{tableFault};
 ghost use Rattle.table.specs.Accepted.{GoodTask};
 ghost use Rattle.table.specs.Answers.{orTable};
-ghost use Rattle.theory.specs.Merge.{slotOf, mergedTask, mergedTable, merged};
+ghost use Rattle.theory.specs.Merge.{slotOf, mergedTask, groupedTasks, merged};
 use table::Checked;
 use table::Pair;
 use table::Reading;
@@ -78,26 +78,24 @@ fn merge_task(groups: [u32; Table::MAX_RESOURCES], x: Task) -> Task
     }
 }
 
-// An accepted table with its merged pairs, and no groups left.
-fn merge_tasks(t: Table) -> Table
+// The tasks of an accepted table, with their merged pairs.
+fn merge_tasks(t: Table) -> [Task; Table::MAX_TASKS]
     requires { ⌜ tableFault t ≡ Fine ⌝ }
-    ensures { λ r. ⌜ r ≡ mergedTable t ⌝ }
+    ensures { λ r. ⌜ r ≡ groupedTasks t ⌝ }
 {
     let groups = t.groups;
-    let n = t.n;
-    let mut m = Table::empty();
-    m.cpus = t.cpus;
-    m.n = n;
+    let none = Table::empty();
+    let mut tasks = none.tasks;
     let mut i: usize = 0;
-    while i < n {
+    while i < t.n {
         let x = t.tasks[i];
-        m.tasks[i] = merge_task(groups, x);
+        tasks[i] = merge_task(groups, x);
         i += 1;
     }
-    m
+    tasks
 }
 
-// What is said against a table; or the table that the analysis reads of it.
+// What is said against a table; or the table that the analysis reads of it, which has no groups left.
 pub fn merge(t: Table) -> Reading
     ensures { λ r. ⌜ r ≡ orTable (tableFault t) (merged t) ⌝ }
 {
@@ -109,9 +107,11 @@ pub fn merge(t: Table) -> Reading
         };
     };
     let groups = t.groups;
-    if !rules::has_group(groups) {
-        return Reading { answer, table: t };
+    let mut table = t;
+    table.groups = [0; Table::MAX_RESOURCES];
+    if rules::has_group(groups) {
+        let tasks = merge_tasks(t);
+        table.tasks = tasks;
     }
-    let table = merge_tasks(t);
     Reading { answer, table }
 }

@@ -19,13 +19,13 @@ use Rattle.table.specs.At.{taskAt, pairOf, withAlpha, SameTask}
 use Rattle.table.specs.Without.{withoutAlpha, SameButAlpha}
 use Rattle.table.proofs.WithoutLaws.{without-at}
 use Rattle.theory.specs.View.{View, level, resource, overResources, isAbove, uses}
-use Rattle.theory.specs.Tables.{viewOf}
+use Rattle.theory.specs.Tables.{mergedView}
 use Rattle.waits.specs.Wait.{othersOf, othersBelow, waitOf}
 use Rattle.promises.specs.Reads.{Unchanged}
 
 -- ---- what does not read alpha
 
-pub unread : (t : Table) → viewOf (withoutAlpha t) ≡ viewOf t
+pub unread : (t : Table) → mergedView (withoutAlpha t) ≡ mergedView t
 unfolding withoutAlpha
 unread t =
     let x : (i : ℕ) → taskAt (withoutAlpha t) i ≡ withAlpha 0 (taskAt t i) = without-at t in
@@ -45,7 +45,7 @@ module _ (a b : Table) (same : SameButAlpha a b) where
   unfolding withoutAlpha
   task-same i h = rw (without-at a i, without-at b i) at (same .tasks i h)
 
-  pub unchanged : (runs : Level → Type 0) → Unchanged (λ l. Unit) runs (viewOf a) (viewOf b)
+  pub unchanged : (runs : Level → Type 0) → Unchanged (λ l. Unit) runs (mergedView a) (mergedView b)
   unfolding withoutAlpha
   unchanged runs =
       record {

@@ -21,7 +21,7 @@ use Rattle.theory.proofs.AllowanceLaws.{open-above, open-count}
 use Rattle.theory.proofs.EndLaws.{Right, meets-if, misses-if}
 use Rattle.theory.proofs.DemandLaws.{demand-start}
 use Rattle.analysis.specs.declared.Answer.the-variants.{Known}
-use Rattle.theory.specs.Tables.{viewOf, countedIn}
+use Rattle.theory.specs.Tables.{mergedView, countedBy, countedIn}
 use Rattle.analysis.specs.declared.Record.{Record}
 use Rattle.analysis.specs.Answers.{boundOf, analysisFault, recordOf}
 use Rattle.analysis.proofs.ByRounds.{rounds-end, rounds-right, bound-known}
@@ -57,7 +57,7 @@ module _ (t : Table) (i allowance : ℕ) (fine : tableFault t ≡ Fine) (h : i <
         meets = λ q u. (λ e. as-right e, meets-if _ _ v right q u);
         misses = λ q. (λ e. as-right e, misses-if _ _ v right q);
         is-open = opens;
-        from-run = λ u e. let l : Least (demandIn t i) (deadlineIn t i) u = as-right e in (le-trans (demand-start workload (viewOf t) (level i) u) (l .meets), l .high);
+        from-run = λ u e. let l : Least (demandIn t i) (deadlineIn t i) u = as-right e in (le-trans (demand-start workload (mergedView t) (level i) u) (l .meets), l .high);
       }
 
 verdicts : (t : Table) (i allowance : ℕ) → tableFault t ≡ Fine → i < t .n → 1 ≤ allowance

@@ -14,7 +14,7 @@ use Rattle.theory.specs.Work.{uncapped, workload, jobs, ceilDiv}
 use Rattle.theory.specs.View.{level, ceiling}
 use Rattle.theory.specs.Demand.{sharedCT, otherCT, allCT, highCT, DB, S, O, F, L, demandWith, unitsRead}
 use Rattle.theory.specs.Rounds.{countedFrom}
-use Rattle.theory.specs.Tables.{viewOf}
+use Rattle.theory.specs.Tables.{mergedView}
 use Rattle.promises.specs.NoEasier.{Related}
 use Rattle.promises.specs.NotEmpty.{on, tasksA}
 use Rattle.promises.specs.Reads.{FigureKind, processors, tasks, run, deadline, requests, periodAbove, deadlineAbove, shared, other, free, periodBelow, deadlineBelow, high, longest, SameBut}
@@ -26,19 +26,19 @@ use Rattle.promises.proofs.ReadsLaws.{fine-fitting}
 
 -- of the task at slot i, from its rounds, j in the first table and k in the second
 module _ {a b : Table} (i j k : ℕ) (e : tableFault a ≡ Fine) (f : tableFault b ≡ Fine) where
-  stays : {u : ℕ} → isSame (viewOf a) (viewOf b) (level i) ≡ true → T (ltb i (a .n)) → T (ltb i (b .n))
+  stays : {u : ℕ} → isSame (mergedView a) (mergedView b) (level i) ≡ true → T (ltb i (a .n)) → T (ltb i (b .n))
       → countedAt a i j ≡ record { verdict = Meets u; rounds = j } → countedAt b i k ≡ record { verdict = Meets u; rounds = k } → Stays a b i u
   stays s l m c d = moves-by j k (record { first = e; second = f; related = same-by _ _ (level i) (fine-fitting a e) s }) l m c d
 
   module _ (x : FigureKind) where
-    but : isSameBut (viewOf a) (viewOf b) (level i) (numbered x .0) ≡ true → Related (λ v w. SameBut x v w (level i)) a b
+    but : isSameBut (mergedView a) (mergedView b) (level i) (numbered x .0) ≡ true → Related (λ v w. SameBut x v w (level i)) a b
     but s = record { first = e; second = f; related = same-but-by _ _ (level i) (fine-fitting a e) x s }
 
-    tells : {u w : ℕ} → isSameBut (viewOf a) (viewOf b) (level i) (numbered x .0) ≡ true → T (ltb i (a .n)) → T (ltb i (b .n))
+    tells : {u w : ℕ} → isSameBut (mergedView a) (mergedView b) (level i) (numbered x .0) ≡ true → T (ltb i (a .n)) → T (ltb i (b .n))
         → countedAt a i j ≡ record { verdict = Meets u; rounds = j } → countedAt b i k ≡ record { verdict = Meets w; rounds = k } → Tells x a b i u w
     tells s l m c d = moves-by j k (but s) l m c d
 
-    tells-miss : {u : ℕ} → isSameBut (viewOf a) (viewOf b) (level i) (numbered x .0) ≡ true → T (ltb i (a .n)) → T (ltb i (b .n))
+    tells-miss : {u : ℕ} → isSameBut (mergedView a) (mergedView b) (level i) (numbered x .0) ≡ true → T (ltb i (a .n)) → T (ltb i (b .n))
         → countedAt a i j ≡ record { verdict = Meets u; rounds = j } → countedAt b i k ≡ record { verdict = Misses; rounds = k } → TellsMiss x a b i u
     tells-miss s l m c d = lost-by j k (but s) l m c d
 
@@ -72,9 +72,9 @@ each-read =
           };
       run-below = moves-by 2 2 (record { first = refl; second = refl; related = (lit< tt, only-run-by _ _ (level 1) refl) }) tt tt refl refl;
       begins =
-          moves-by 2 7 (record { first = refl; second = refl; related = where-read-by (viewOf unlocked) (viewOf (on 1 tasksA)) (fine-fitting unlocked refl) (level 1) refl refl }) tt tt refl refl;
+          moves-by 2 7 (record { first = refl; second = refl; related = where-read-by (mergedView unlocked) (mergedView (on 1 tasksA)) (fine-fitting unlocked refl) (level 1) refl refl }) tt tt refl refl;
       lifts =
           moves-by 2 7
-          (record { first = refl; second = refl; related = same-by-first (viewOf lockApart) (viewOf lockShared) (level 1) (fine-fitting lockApart refl) refl refl })
+          (record { first = refl; second = refl; related = same-by-first (mergedView lockApart) (mergedView lockShared) (level 1) (fine-fitting lockApart refl) refl refl })
           tt tt refl refl;
     }

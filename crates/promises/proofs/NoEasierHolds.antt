@@ -12,7 +12,7 @@ use Rattle.table.specs.Rules.{tableFault}
 use Rattle.table.proofs.Acceptance.{fine-accepted}
 use Rattle.theory.specs.View.{View}
 use Rattle.theory.specs.Demand.{allCT}
-use Rattle.theory.specs.Tables.{viewOf}
+use Rattle.theory.specs.Tables.{mergedView}
 use Rattle.theory.proofs.LeastLaws.{least-unique}
 use Rattle.analysis.proofs.ByRounds.{fine-runs}
 use Rattle.promises.specs.Words.{readTable}
@@ -21,7 +21,7 @@ use Rattle.promises.specs.NotEmpty.{holding, holdingLonger}
 use Rattle.promises.proofs.NoEasierLaws.{Fits, no-easier-keeps}
 use Rattle.promises.proofs.NotEmptyHolds.{two-tasks, falls}
 
-fine-fits : (t : Table) → tableFault t ≡ Fine → Fits (viewOf t)
+fine-fits : (t : Table) → tableFault t ≡ Fine → Fits (mergedView t)
 unfolding allCT
 fine-fits t e =
     let a = fine-accepted t e in
@@ -33,7 +33,7 @@ fine-fits t e =
     }
 
 pub one : KeepsBounds NoEasier
-one a b r = no-easier-keeps (viewOf a) (viewOf b) (r .related) (fine-fits b (r .second))
+one a b r = no-easier-keeps (mergedView a) (mergedView b) (r .related) (fine-fits b (r .second))
 
 -- what is unchanged is no smaller; where C and CT are, so is C less all CT
 harder-is : (v w : View) → Harder v w → NoEasier v w

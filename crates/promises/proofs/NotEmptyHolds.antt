@@ -22,7 +22,7 @@ use Rattle.theory.specs.Work.{uncapped, workload, jobs, ceilDiv}
 use Rattle.theory.specs.View.{View, ceiling}
 use Rattle.theory.specs.Demand.{sharedCT, otherCT, allCT, highCT, DB, S, O, F, L, demandWith}
 use Rattle.theory.specs.Rounds.{countedFrom}
-use Rattle.theory.specs.Tables.{viewOf}
+use Rattle.theory.specs.Tables.{mergedView}
 use Rattle.theory.proofs.WorkLaws.{workload-rises}
 use Rattle.theory.proofs.EndLaws.{Right}
 use Rattle.analysis.proofs.ByRounds.{by-rounds}
@@ -49,14 +49,14 @@ module _ {R : View → View → Type 0} {a b : Table} {i : ℕ} (j k : ℕ) (r :
   lost-by c d = record { related = r; before = after a i j (r .first) h c; after = after b i k (r .second) h' d }
 
 module _ {rest run free : ℕ → ℕ → Type 0} (p : Tested rest) (q : Tested run) (r : Tested free) {a b : Table} where
-  pub related-by : tableFault a ≡ Fine → tableFault b ≡ Fine → isCompared p q r (viewOf a) (viewOf b) ≡ true → Related (Compared rest run free) a b
+  pub related-by : tableFault a ≡ Fine → tableFault b ≡ Fine → isCompared p q r (mergedView a) (mergedView b) ≡ true → Related (Compared rest run free) a b
   related-by e f h = record { first = e; second = f; related = compared-by p q r _ _ h }
 
-  moves : {i u w : ℕ} (j k : ℕ) → tableFault a ≡ Fine → tableFault b ≡ Fine → isCompared p q r (viewOf a) (viewOf b) ≡ true → T (ltb i (a .n)) → T (ltb i (b .n))
+  moves : {i u w : ℕ} (j k : ℕ) → tableFault a ≡ Fine → tableFault b ≡ Fine → isCompared p q r (mergedView a) (mergedView b) ≡ true → T (ltb i (a .n)) → T (ltb i (b .n))
       → countedAt a i j ≡ record { verdict = Meets u; rounds = j } → countedAt b i k ≡ record { verdict = Meets w; rounds = k } → Moves (Compared rest run free) a b i u w
   moves j k e f h l m c d = moves-by j k (related-by e f h) l m c d
 
-  lost : {i u : ℕ} (j k : ℕ) → tableFault a ≡ Fine → tableFault b ≡ Fine → isCompared p q r (viewOf a) (viewOf b) ≡ true → T (ltb i (a .n)) → T (ltb i (b .n))
+  lost : {i u : ℕ} (j k : ℕ) → tableFault a ≡ Fine → tableFault b ≡ Fine → isCompared p q r (mergedView a) (mergedView b) ≡ true → T (ltb i (a .n)) → T (ltb i (b .n))
       → countedAt a i j ≡ record { verdict = Meets u; rounds = j } → countedAt b i k ≡ record { verdict = Misses; rounds = k } → Lost (Compared rest run free) a b i u
   lost j k e f h l m c d = lost-by j k (related-by e f h) l m c d
 

@@ -20,7 +20,7 @@ use Rattle.theory.specs.View.{View, level}
 use Rattle.theory.specs.Demand.{unitsRead}
 use Rattle.theory.specs.Bound.{Least, None}
 use Rattle.theory.specs.Rounds.{countedFrom}
-use Rattle.theory.specs.Tables.{viewOf, countedIn}
+use Rattle.theory.specs.Tables.{mergedView, countedBy, countedIn}
 use Rattle.analysis.specs.declared.Answer.the-variants.{Known}
 use Rattle.analysis.specs.Answers.{boundFault, orAnswer, boundOf}
 use Rattle.page.specs.Report.{reportAllowance}
@@ -43,7 +43,7 @@ same : SameAnswers SameRead
 unfolding boundOf boundFault countedIn AgreeOn
 same a b i r h allowance =
     let q = r .related in
-    let demand = demand-same (viewOf a) (viewOf b) (fine-fitting a (r .first)) (level i) q in
+    let demand = demand-same (mergedView a) (mergedView b) (fine-fitting a (r .first)) (level i) q in
     let counted : countedIn b allowance (level i) ≡ countedIn a allowance (level i) = λ x. countedFrom (λ t. demand t x) (q deadline x) allowance (q run x) in
     let fault : boundFault b (level i) allowance ≡ boundFault a (level i) allowance = rw (r .first, r .second, q tasks) in
     ap₂ (λ c k. orAnswer c (Known k)) fault counted
@@ -57,19 +57,19 @@ printed columns s s' a b allowance i row row' p q h r =
 
 run-below : (j : Level) → SameAnswers (λ v w i. Above i j × OnlyRun j v w)
 run-below j a b i r h =
-    same a b i (record { first = r .first; second = r .second; related = same-above j (viewOf a) (viewOf b) (r .related .1) i h (r .related .0) }) h
+    same a b i (record { first = r .first; second = r .second; related = same-above j (mergedView a) (mergedView b) (r .related .1) i h (r .related .0) }) h
 
 reads-units : (t : Table) (i l : ℕ) → tableFault t ≡ Fine → l < t .n
-    → Reads (viewOf t) (level i) (level l) exactly-if (1 ≤ unitsRead (viewOf t) (level i) (level l))
-reads-units t i l e h = (read-units (viewOf t) (fine-fitting t e) (level i) l h, units-read (viewOf t) (fine-fitting t e) (level i) l h)
+    → Reads (mergedView t) (level i) (level l) exactly-if (1 ≤ unitsRead (mergedView t) (level i) (level l))
+reads-units t i l e h = (read-units (mergedView t) (fine-fitting t e) (level i) l h, units-read (mergedView t) (fine-fitting t e) (level i) l h)
 
 read-in-both : (a b : Table) (i l : ℕ) → Related (λ v w. SameRead v w (level i)) a b → l < a .n
-    → Reads (viewOf a) (level i) (level l) exactly-if Reads (viewOf b) (level i) (level l)
+    → Reads (mergedView a) (level i) (level l) exactly-if Reads (mergedView b) (level i) (level l)
 unfolding AgreeOn
 read-in-both a b i l r h =
     let p = reads-units a i l (r .first) h in
     let q = reads-units b i l (r .second) (omega (arith, r .related tasks)) in
-    let e = units-same (viewOf a) (viewOf b) (level i) (r .related) l h in
+    let e = units-same (mergedView a) (mergedView b) (level i) (r .related) l h in
     (λ x. q .1 (rw e (p .0 x)), λ x. p .1 (rw e at (q .0 x)))
 
 -- ---- that no kind can be left out

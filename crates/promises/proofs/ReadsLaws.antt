@@ -23,7 +23,7 @@ use Rattle.table.specs.Accepted.{GoodPair}
 use Rattle.table.proofs.Acceptance.{fine-accepted}
 use Rattle.theory.specs.View.{View, level, resource, isAbove, overResources, uses, ceiling}
 use Rattle.theory.specs.Demand.{sharedCT, highCT, unitsRead}
-use Rattle.theory.specs.Tables.{viewOf}
+use Rattle.theory.specs.Tables.{mergedView}
 use Rattle.theory.proofs.PassLaws.{split-all}
 use Rattle.promises.specs.NoEasier.{eachTask, eachPair}
 use Rattle.promises.specs.Reads.{Above, LongForm, Reads, sharing, higher, lower}
@@ -43,7 +43,7 @@ pair-counts : (p : Pair) → (p ≡ unusedPair) ⊎ GoodPair p → ltb 0 (p .req
 pair-counts p (inl e) u = let z : p .requests ≡ 0 = ap (λ (x : Pair). x .requests) e in absurd (omega (arith, ltb-true 0 (p .requests) u))
 pair-counts p (inr g) u = omega (arith, g .longest-least, g .longest-total)
 
-pub fine-fitting : (t : Table) → tableFault t ≡ Fine → Fitting (viewOf t)
+pub fine-fitting : (t : Table) → tableFault t ≡ Fine → Fitting (mergedView t)
 fine-fitting t e =
     let a = fine-accepted t e in
     record {

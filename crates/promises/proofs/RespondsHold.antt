@@ -29,7 +29,7 @@ use Rattle.page.specs.Report.{reportAllowance}
 use Rattle.theory.specs.View.{View, level}
 use Rattle.theory.specs.Demand.{allCT}
 use Rattle.theory.specs.Bound.{Least}
-use Rattle.theory.specs.Tables.{viewOf, countedIn}
+use Rattle.theory.specs.Tables.{mergedView, countedBy, countedIn}
 use Rattle.theory.proofs.WorkLaws.{workload-rises}
 use Rattle.schedules.specs.Jobs.{Generated}
 use Rattle.schedules.specs.Schedule.{UnderPIP}
@@ -56,7 +56,7 @@ no-requests : (N total : ℕ) → (1 ≤ total → ltb 0 N ≡ true) → N ≡ 0
 no-requests N zero u z = refl
 no-requests N (suc x) u z = absurd (omega (arith, ltb-true 0 N (u (omega arith))))
 
-fine-constrained : (t : Table) → tableFault t ≡ Fine → Constrained (viewOf t)
+fine-constrained : (t : Table) → tableFault t ≡ Fine → Constrained (mergedView t)
 unfolding allCT
 fine-constrained t e =
     let a = fine-accepted t e in
@@ -78,15 +78,15 @@ met-least t i allowance r u e m =
     rw v at (rounds-right workload workload-rises t i (k .0) (k .1) allowance)
 
 -- a set of tasks that read no others is closed
-reads-closed : (t : Table) → tableFault t ≡ Fine → (X : ℕ → Type 0) → ReadNoOther t X → Closed (viewOf t) X
-reads-closed t fine X c i l h x k u = c i l h x k (units-read (viewOf t) (fine-fitting t fine) (level i) l k u)
+reads-closed : (t : Table) → tableFault t ≡ Fine → (X : ℕ → Type 0) → ReadNoOther t X → Closed (mergedView t) X
+reads-closed t fine X c i l h x k u = c i l h x k (units-read (mergedView t) (fine-fitting t fine) (level i) l k u)
 
 others-meet : (columns : Columns) (allowance : ℕ) (s : List ℕ) (t : Table) (row : ℕ → Counted) (X : ℕ → Type 0) (micros : ℕ → ℕ) → PrintsRows columns allowance s t row
     → ReadNoOther t X → RowsMeet t row X micros → NoJobLonger t X micros
 others-meet columns allowance s t row X micros p c m k pos J o S E r i h x =
     let fine : tableFault t ≡ Fine = known t i allowance (p .answer i h) .0 in
     let least : (i : ℕ) → i < t .n → X i → Least (demandIn t i) (deadlineIn t i) (micros i) = λ i h x. met-least t i allowance (row i) (micros i) (p .answer i h) (m i h x) in
-    theorem1-holds .bounds (viewOf t) (fine-constrained t fine) X (reads-closed t fine X c) micros
+    theorem1-holds .bounds (mergedView t) (fine-constrained t fine) X (reads-closed t fine X c) micros
     (record { low = λ i h x. least i h x .low; high = λ i h x. least i h x .high; covers = λ i h x. least i h x .meets }) k pos J o S E r i h x
 
 shown-listing : readListing (bytes shownListing) ≡ accepted shownTable
@@ -116,7 +116,7 @@ unfolding missTable jobsOf
 not-alone claim =
     let p = rounds-hold .prints Five reportAllowance (bytes missListing) missTable some-allowed miss-listing in
     let m = least-met (bytes missListing) missTable (p .0) (p .1) 1 4 (lit< tt) (miss-holds .meets) in
-    let e = sym (theorem1-holds .whole (viewOf missTable)) in
+    let e = sym (theorem1-holds .whole (mergedView missTable)) in
     let g = subst (λ (v : View). Generated v (jobsOf missPicture)) e (miss-holds .generated) in
     let r = subst (λ (v : View). UnderPIP v (jobsOf missPicture) (runOf missPicture) 11) e (miss-holds .scheduled) in
     miss-holds .longer (claim Five reportAllowance (bytes missListing) missTable (p .0) 1 4 (p .1) (lit< tt) m 1 (le-refl 1) (jobsOf missPicture) g (runOf missPicture) 11 r 1 (lit< tt) refl 0 11 due (le-refl 11))

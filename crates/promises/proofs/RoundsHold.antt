@@ -21,7 +21,7 @@ use Rattle.theory.specs.Work.{uncapped, workload, jobs, ceilDiv}
 use Rattle.theory.specs.View.{level, ceiling}
 use Rattle.theory.specs.Demand.{sharedCT, otherCT, allCT, highCT, DB, S, O, F, L, demandWith}
 use Rattle.theory.specs.Rounds.{countedFrom}
-use Rattle.theory.specs.Tables.{viewOf, countedIn}
+use Rattle.theory.specs.Tables.{mergedView, countedBy, countedIn}
 use Rattle.theory.proofs.WorkLaws.{workload-rises}
 use Rattle.theory.proofs.RoundLaws.{counts-unique}
 use Rattle.theory.proofs.AllowanceLaws.{open-rounds, settled-rounds, going-open, open-count, rounds-most}
@@ -84,7 +84,7 @@ prints : (columns : Columns) (allowance : ℕ) (s : List ℕ) (t : Table) → 1 
 prints columns allowance s t h e =
     (λ i. countedIn t allowance (level i), record { table = e; text = report-accepted columns allowance s t h e; answer = λ i l. bound-known t i allowance (passes-check s t e) l h })
 
-printed : (s s' : List ℕ) (a b : Table) → readListing s ≡ accepted a → readListing s' ≡ accepted b → NoEasier (viewOf a) (viewOf b) → KeptInPrint s s' a b
+printed : (s s' : List ℕ) (a b : Table) → readListing s ≡ accepted a → readListing s' ≡ accepted b → NoEasier (mergedView a) (mergedView b) → KeptInPrint s s' a b
 unfolding prints
 printed s s' a b e f r =
     let x = prints Five reportAllowance s a some-allowed e in

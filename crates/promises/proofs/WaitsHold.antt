@@ -29,7 +29,7 @@ use Rattle.put.proofs.TextLaws.{digits-length}
 use Rattle.listing.specs.Read.{readListing}
 use Rattle.theory.specs.declared.Counted.{Counted}
 use Rattle.theory.specs.View.{level}
-use Rattle.theory.specs.Tables.{viewOf, countedIn}
+use Rattle.theory.specs.Tables.{mergedView, countedBy, countedIn}
 use Rattle.meaning.proofs.Meaning.{passes-check}
 use Rattle.analysis.specs.Answers.{boundOf}
 use Rattle.analysis.proofs.ByRounds.{bound-known}
@@ -140,6 +140,6 @@ waits-hold =
       largest = largest-agrees;
       unread = unread;
       verdicts = verdicts;
-      raised = λ a b s i h l. rw (← wait-same (viewOf a) (viewOf b) (unchanged a b s _) (alphaAt b i) i h) at (wait-more (viewOf a) (alphaAt a i) (alphaAt b i) (level i) l);
+      raised = λ a b s i h l. rw (← wait-same (mergedView a) (mergedView b) (unchanged a b s _) (alphaAt b i) i h) at (wait-more (mergedView a) (alphaAt a i) (alphaAt b i) (level i) l);
       of-all = of-all;
     }

@@ -22,7 +22,7 @@ use Rattle.theory.specs.View.{level, ceiling}
 use Rattle.theory.specs.Demand.{sharedCT, otherCT, allCT, highCT, DB, S, O, F, L, demandWith}
 use Rattle.theory.specs.Bound.{Least}
 use Rattle.theory.specs.Rounds.{countedFrom}
-use Rattle.theory.specs.Tables.{viewOf, countedIn}
+use Rattle.theory.specs.Tables.{mergedView, countedBy, countedIn}
 use Rattle.theory.proofs.WorkLaws.{uncapped-rises, workload-window, workload-less, workload-rises, workload-grows}
 use Rattle.theory.proofs.BoundLaws.{capped-keeps}
 use Rattle.analysis.proofs.ByRounds.{fine-runs, by-rounds}
@@ -35,7 +35,7 @@ use Rattle.promises.proofs.ThreeTasks.{three, met, meets-in, some-allow
 
 keeps : (t : Table) (i : ℕ) → tableFault t ≡ Fine → i < t .n → (u : ℕ) → Least (uncappedDemandIn t i) (deadlineIn t i) u
     → (w : ℕ) × Least (demandIn t i) (deadlineIn t i) w × (w ≤ u)
-keeps t i e h u l = capped-keeps (viewOf t) (fine-runs t e) (level i) u l
+keeps t i e h u l = capped-keeps (mergedView t) (fine-runs t e) (level i) u l
 
 pub window-holds : Window
 unfolding workload uncapped jobs

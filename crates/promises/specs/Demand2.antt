@@ -16,7 +16,7 @@ use Rattle.theory.specs.Bound.{Least, None}
 use Rattle.theory.specs.Rounds.{Counts}
 use Rattle.analysis.specs.declared.Answer.the-variants.{Known}
 use Rattle.analysis.specs.declared.Record.{Record}
-use Rattle.theory.specs.Tables.{viewOf}
+use Rattle.theory.specs.Tables.{mergedView}
 use Rattle.analysis.specs.Answers.{boundOf, analysisFault, noRecord, analysed}
 use Rattle.basics.specs.Exactly.{_exactly-if_}
 use Rattle.writing.specs.Write.{textOf, writeAnswer, written}
@@ -26,13 +26,13 @@ use Rattle.promises.specs.Words.{Writes}
 
 -- the demand and the deadline of a task, by its slot, counted from 0
 abbrev pub demandIn : Table → ℕ → ℕ → ℕ
-demandIn t i = demandOf (viewOf t) (level i)
+demandIn t i = demandOf (mergedView t) (level i)
 
 abbrev pub runIn : Table → ℕ → ℕ
-runIn t i = viewOf t .C (level i)
+runIn t i = mergedView t .C (level i)
 
 abbrev pub deadlineIn : Table → ℕ → ℕ
-deadlineIn t i = viewOf t .D (level i)
+deadlineIn t i = mergedView t .D (level i)
 
 -- n demands are worked out for a task where no allowance is set
 abbrev pub CountIn : Table → ℕ → ℕ → Type 0

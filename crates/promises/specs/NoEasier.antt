@@ -12,7 +12,7 @@ use Rattle.table.specs.Rules.{tableFault}
 use Rattle.theory.specs.View.{View, level, resource, uses}
 use Rattle.theory.specs.Demand.{allCT}
 use Rattle.theory.specs.Bound.{Least}
-use Rattle.theory.specs.Tables.{viewOf}
+use Rattle.theory.specs.Tables.{mergedView}
 use Rattle.promises.specs.Demand2.{demandIn, deadlineIn}
 
 -- ---- the relation
@@ -57,7 +57,7 @@ NoEasier = Compared _≤_ _≤_ _≤_
 pub record Related (R : View → View → Type 0) (a b : Table) : Type 0 where
   pub first : tableFault a ≡ Fine
   pub second : tableFault b ≡ Fine
-  pub related : R (viewOf a) (viewOf b)
+  pub related : R (mergedView a) (mergedView b)
 
 -- of tables so related, "for each task of the first: if the second gives it a bound, the first gives it one too, and no larger"
 abbrev pub KeepsBounds : (View → View → Type 0) → Type 0

@@ -11,7 +11,7 @@ use Rattle.table.specs.declared.Table.{Table}
 use Rattle.table.specs.Faults.{at}
 use Rattle.table.specs.Limits.{maxTasks, maxResources}
 use Rattle.table.specs.Empty.{unusedPair, emptyTask}
-use Rattle.table.specs.At.{aPair, aTask}
+use Rattle.table.specs.At.{aPair, aTask, aTable}
 use Rattle.table.specs.Rules.{tableFault}
 use Rattle.theory.specs.View.{View}
 use Rattle.theory.specs.Bound.{Least, None}
@@ -25,7 +25,7 @@ using1 T C D p = aTask T C D (p ∷ replicate (maxResources - 1) unusedPair)
 
 -- these tasks on m processors
 unfoldable pub on : ℕ → List Task → Table
-on m tasks = record { cpus = m; n = length tasks; tasks = tasks ++ replicate (maxTasks - length tasks) emptyTask }
+on m tasks = aTable m (length tasks) (tasks ++ replicate (maxTasks - length tasks) emptyTask)
 
 -- the tasks of case A, which is on two processors
 abbrev pub one : Task

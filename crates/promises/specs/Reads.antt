@@ -15,7 +15,7 @@ use Rattle.table.specs.Rules.{tableFault}
 use Rattle.theory.specs.declared.Counted.{Counted}
 use Rattle.theory.specs.View.{View, level, resource, isAbove, overResources, largestBelow, uses, ceiling}
 use Rattle.theory.specs.Demand.{sharedCT, otherCT, allCT, highCT, unitsRead}
-use Rattle.theory.specs.Tables.{viewOf}
+use Rattle.theory.specs.Tables.{mergedView}
 use Rattle.analysis.specs.Answers.{boundOf}
 use Rattle.page.specs.declared.Columns.{Columns}
 use Rattle.promises.specs.NoEasier.{eachTask, eachPair, Related}
@@ -139,6 +139,6 @@ pub record VerdictReads : Type 0 where
   pub own-ceilings : SameAnswers SameByFirst → ⊥
   -- the tasks that i reads are those of which some units count in its demand
   pub reads-units : (t : Table) (i l : ℕ) → tableFault t ≡ Fine → l < t .n
-      → Reads (viewOf t) (level i) (level l) exactly-if (1 ≤ unitsRead (viewOf t) (level i) (level l))
+      → Reads (mergedView t) (level i) (level l) exactly-if (1 ≤ unitsRead (mergedView t) (level i) (level l))
   pub read-in-both : (a b : Table) (i l : ℕ) → Related (λ v w. SameRead v w (level i)) a b → l < a .n
-      → Reads (viewOf a) (level i) (level l) exactly-if Reads (viewOf b) (level i) (level l)
+      → Reads (mergedView a) (level i) (level l) exactly-if Reads (mergedView b) (level i) (level l)

@@ -12,7 +12,7 @@ use Rattle.listing.specs.Read.{readListing}
 use Rattle.theory.specs.declared.Verdict.the-variants.{Meets}
 use Rattle.theory.specs.declared.Counted.{Counted}
 use Rattle.theory.specs.View.{level}
-use Rattle.theory.specs.Tables.{viewOf}
+use Rattle.theory.specs.Tables.{mergedView}
 use Rattle.schedules.specs.Jobs.{JobSet, Generated}
 use Rattle.schedules.specs.Schedule.{Schedule, UnderPIP, RespondsWithin}
 use Rattle.schedules.specs.Theorem.{Theorem1, finer}
@@ -26,7 +26,7 @@ use Rattle.promises.specs.Rounds.{PrintsRows}
 -- in every run of the table's tasks, its instants being k-ths of a microsecond, no job of a task that X names takes longer than so many microseconds: `NoneLonger` of `schedules`, of this table
 abbrev pub NoJobLonger : Table → (ℕ → Type 0) → (ℕ → ℕ) → Type 0
 NoJobLonger t X micros =
-    (k : ℕ) → 1 ≤ k → (J : JobSet) → Generated (finer k (viewOf t)) J → (S : Schedule) (E : ℕ) → UnderPIP (finer k (viewOf t)) J S E
+    (k : ℕ) → 1 ≤ k → (J : JobSet) → Generated (finer k (mergedView t)) J → (S : Schedule) (E : ℕ) → UnderPIP (finer k (mergedView t)) J S E
     → (i : ℕ) → i < t .n → X i → RespondsWithin J S E i (k * micros i)
 
 -- the rows of these tasks say `meets`, with so many microseconds
@@ -35,12 +35,12 @@ RowsMeet t row X micros = (i : ℕ) → i < t .n → X i → row i .verdict ≡ 
 
 -- what each of these tasks reads is among them, and so is what that reads in turn: `Closed` of `schedules`, by the locks and ceilings
 abbrev pub ReadNoOther : Table → (ℕ → Type 0) → Type 0
-ReadNoOther t X = (i l : ℕ) → i < t .n → X i → l < t .n → Reads (viewOf t) (level i) (level l) → X l
+ReadNoOther t X = (i l : ℕ) → i < t .n → X i → l < t .n → Reads (mergedView t) (level i) (level l) → X l
 
 -- task i itself, and each that is read by one of these: what i reads "directly or in turn"
 pub data InTurn (t : Table) (i : ℕ) : ℕ → Type 0 where
   itself : InTurn t i i
-  further : (m l : ℕ) → m < t .n → InTurn t i m → Reads (viewOf t) (level m) (level l) → InTurn t i l
+  further : (m l : ℕ) → m < t .n → InTurn t i m → Reads (mergedView t) (level m) (level l) → InTurn t i l
 
 -- the listings of the tables of which `Shown` draws a run: all tasks meet; the first misses
 abbrev pub shownListing : String

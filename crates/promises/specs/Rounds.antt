@@ -12,7 +12,7 @@ use Rattle.theory.specs.declared.Verdict.the-variants.{Meets, Open}
 use Rattle.theory.specs.declared.Counted.{Counted}
 use Rattle.theory.specs.View.{level}
 use Rattle.theory.specs.Rounds.{lengthAfter, Ends}
-use Rattle.theory.specs.Tables.{viewOf}
+use Rattle.theory.specs.Tables.{mergedView}
 use Rattle.analysis.specs.declared.Answer.the-variants.{Known}
 use Rattle.analysis.specs.Answers.{boundOf}
 use Rattle.page.specs.declared.Columns.{Columns}
@@ -79,6 +79,6 @@ pub record Rounds : Type 0 where
       → boundOf b (level i) reportAllowance ≡ Known (record { verdict = Meets u; rounds = n })
       → (w : ℕ) × (m : ℕ) × (boundOf a (level i) reportAllowance ≡ Known (record { verdict = Meets w; rounds = m })) × (w ≤ u)
   -- and of what `report` prints;
-  pub printed : (s s' : List ℕ) (a b : Table) → readListing s ≡ accepted a → readListing s' ≡ accepted b → NoEasier (viewOf a) (viewOf b) → KeptInPrint s s' a b
+  pub printed : (s s' : List ℕ) (a b : Table) → readListing s ≡ accepted a → readListing s' ≡ accepted b → NoEasier (mergedView a) (mergedView b) → KeptInPrint s s' a b
   -- and under the allowance of `bench`, so of what that prints, it does not: task 3 of case A on two processors, where it takes six rounds, and on one
   pub overtakes : Overtakes (on 2 tasksA) (on 1 tasksA) 2 benchAllowance 22_000 4

@@ -22,7 +22,7 @@ use Rattle.put.specs.Text.{countText}
 use Rattle.listing.specs.Read.{readListing}
 use Rattle.theory.specs.declared.Counted.{Counted}
 use Rattle.theory.specs.View.{View, level, resource, overResources, uses}
-use Rattle.theory.specs.Tables.{viewOf}
+use Rattle.theory.specs.Tables.{mergedView}
 use Rattle.analysis.specs.declared.Answer.the-variants.{Known}
 use Rattle.analysis.specs.Answers.{boundOf}
 use Rattle.waits.specs.declared.Waiting.the-variants.{For, NoAlpha as WithoutAlpha}
@@ -41,7 +41,7 @@ pub record PrintsWaits (s : List ℕ) (t : Table) (row : ℕ → Counted) (cell 
   -- the verdicts and the rounds are what `bound` answers
   pub answer : (i : ℕ) → i < t .n → boundOf t (level i) reportAllowance ≡ Known (row i)
   -- the wait with the task's own alpha, in microseconds,
-  pub wait : HaveAlpha t → (i : ℕ) → i < t .n → cell i ≡ countText (waitOf (viewOf t) (alphaAt t i) (level i))
+  pub wait : HaveAlpha t → (i : ℕ) → i < t .n → cell i ≡ countText (waitOf (mergedView t) (alphaAt t i) (level i))
   -- "`-` without alpha", and only then
   pub dash : (i : ℕ) → i < t .n → (cell i ≡ bytes "-") exactly-if NoAlpha t
 
@@ -50,11 +50,11 @@ pub record AnswersWaits (t : Table) : Type 0 where
   -- alpha is given "for all tasks or none"
   pub all-or-none : HaveAlpha t ⊎ NoAlpha t
   -- the wait with the task's own alpha, or that the table has none
-  pub wait : HaveAlpha t → (i : ℕ) → i < t .n → waitAnswer t (level i) ≡ For (waitOf (viewOf t) (alphaAt t i) (level i))
+  pub wait : HaveAlpha t → (i : ℕ) → i < t .n → waitAnswer t (level i) ≡ For (waitOf (mergedView t) (alphaAt t i) (level i))
   pub no-wait : NoAlpha t → (i : ℕ) → i < t .n → waitAnswer t (level i) ≡ WithoutAlpha
   -- and the same of all tasks at once
   pub given : (allWaits t .given ≡ true) exactly-if HaveAlpha t
-  pub all : HaveAlpha t → (i : ℕ) → i < t .n → getD (allWaits t .of) i 0 ≡ waitOf (viewOf t) (alphaAt t i) (level i)
+  pub all : HaveAlpha t → (i : ℕ) → i < t .n → getD (allWaits t .of) i 0 ≡ waitOf (mergedView t) (alphaAt t i) (level i)
 
 pub record Waits : Type 0 where
   pub answers : (t : Table) → tableFault t ≡ Fine → AnswersWaits t
@@ -62,7 +62,7 @@ pub record Waits : Type 0 where
   -- "the A largest (all, if fewer)" are summed as they are worked out, and that is the largest sum which at most A of them have, each taken once
   pub largest : LargestAgrees
   -- "The verdicts and demand 3 do not read alpha": all that these and request 7/12 read of a table is its view, and that is the same without the alphas;
-  pub unread : (t : Table) → viewOf (withoutAlpha t) ≡ viewOf t
+  pub unread : (t : Table) → mergedView (withoutAlpha t) ≡ mergedView t
   -- so two accepted tables that differ in alpha alone have the same verdict and rounds for each task, under every allowance
   pub verdicts : (a b : Table) → tableFault a ≡ Fine → tableFault b ≡ Fine → SameButAlpha a b → (i allowance : ℕ) → i < a .n
       → boundOf b (level i) allowance ≡ boundOf a (level i) allowance

@@ -11,14 +11,14 @@ use Rattle.theory.specs.Work.{uncapped, workload}
 use Rattle.theory.specs.View.{level}
 use Rattle.theory.specs.Demand.{loadOf, demandWith}
 use Rattle.theory.specs.Bound.{Least, None}
-use Rattle.theory.specs.Tables.{viewOf}
+use Rattle.theory.specs.Tables.{mergedView}
 use Rattle.page.specs.Report.{reportPrints}
 use Rattle.promises.specs.Words.{readTable}
 use Rattle.promises.specs.Demand2.{demandIn, runIn, deadlineIn}
 
 -- the demand of a task by document 01's workload
 abbrev pub uncappedDemandIn : Table → ℕ → ℕ → ℕ
-uncappedDemandIn t i = demandWith uncapped (viewOf t) (level i)
+uncappedDemandIn t i = demandWith uncapped (mergedView t) (level i)
 
 pub record Window : Type 0 where
   -- "One task cannot run more than t in a window of t."
@@ -34,9 +34,9 @@ pub record Window : Type 0 where
   pub grows : (T D t x x' : ℕ) → 0 < T → D ≤ T → x ≤ x' → x' ≤ D → workload T D t x ≤ workload T D t x'
   -- and so, of each task of an accepted table, "never falls as x grows up to C"
   pub grows-to-run : (t : Table) (i : ℕ) → tableFault t ≡ Fine → i < t .n → (s x x' : ℕ) → x ≤ x' → x' ≤ runIn t i
-      → loadOf workload (viewOf t) s (level i) x ≤ loadOf workload (viewOf t) s (level i) x'
+      → loadOf workload (mergedView t) s (level i) x ≤ loadOf workload (mergedView t) s (level i) x'
   -- "Demand 2 reads it from here on": this too holds by definition
-  pub read : (t : Table) (i s : ℕ) → demandIn t i s ≡ demandWith workload (viewOf t) (level i) s
+  pub read : (t : Table) (i s : ℕ) → demandIn t i s ≡ demandWith workload (mergedView t) (level i) s
   -- "every task that had a bound keeps one, and no bound may become larger than before"
   pub keeps : (t : Table) (i : ℕ) → tableFault t ≡ Fine → i < t .n → (u : ℕ) → Least (uncappedDemandIn t i) (deadlineIn t i) u
       → (w : ℕ) × Least (demandIn t i) (deadlineIn t i) w × (w ≤ u)

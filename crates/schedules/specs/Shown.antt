@@ -11,7 +11,7 @@ use Rattle.table.specs.declared.Table.{Table}
 use Rattle.table.specs.declared.Pair.{Pair}
 use Rattle.table.specs.declared.Task.{Task}
 use Rattle.table.specs.declared.Checked.the-variants.{Fine}
-use Rattle.table.specs.Empty.{unusedPair, emptyTask}
+use Rattle.table.specs.Empty.{unusedPair, noGroups, emptyTask}
 use Rattle.table.specs.At.{aPair, aTask}
 use Rattle.table.specs.Rules.{tableFault}
 use Rattle.theory.specs.View.{level}
@@ -31,6 +31,7 @@ shownTable =
     record {
       cpus = 2;
       n = 4;
+      groups = noGroups;
       tasks = with1 2 (aPair 1 1 1) ∷ with1 3 unusedPair ∷ with1 3 unusedPair ∷ with1 5 (aPair 1 3 3) ∷ replicate 28 emptyTask;
     }
 
@@ -85,6 +86,7 @@ missTable =
     record {
       cpus = 2;
       n = 3;
+      groups = noGroups;
       tasks =
           aTask 6 3 3 (aPair 1 1 1 ∷ aPair 1 1 1 ∷ replicate 14 unusedPair)
           ∷ aTask 20 3 20 (unusedPair ∷ aPair 2 1 2 ∷ replicate 14 unusedPair)

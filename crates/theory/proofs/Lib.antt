@@ -5,7 +5,7 @@
 --   RoundLaws     round-repeats, round-passes, round-goes-on; no-end, counts-once, counts-more, counts-unique
 --   AllowanceLaws open-rounds, settled-rounds, going-open, open-above, open-count, rounds-most, stays
 --   EndLaws       counts-exists; Right, counted-right, meets-if, misses-if
---   MergeLaws     merged-cpus, merged-n, merged-task, merged-pair; merged-agrees; merged-bounds, none-merged
+--   MergeLaws     slot-alone, slot-found, slot-below, pair-alone; none-tasks, merged-task, merged-pair; merged-agrees, merged-bounds
 --   PassLaws      ceiling-above, split-all, largest-none, where-used
 --   DemandLaws    Runs, NoMore, demand-start, TermsGrow, demand-le, terms-itself, demand-rises
 --   BoundLaws     terms-keep, capped-keeps

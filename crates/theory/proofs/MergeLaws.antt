@@ -30,7 +30,7 @@ use Rattle.table.specs.Accepted.{GoodTask, Accepted}
 use Rattle.table.proofs.Acceptance.{fine-accepted}
 use Rattle.table.proofs.GroupLaws.{no-group-is}
 use Rattle.table.proofs.RuleLaws.{pair-bounds}
-use Rattle.theory.specs.Merge.{slotOf, partAt, mergedPair, mergedTask, mergedTable, merged}
+use Rattle.theory.specs.Merge.{slotOf, partAt, mergedPair, mergedTask, groupedTasks, mergedTasks, merged}
 use Rattle.theory.specs.Groups.{memberOf, groupPair, MergedPairs, MergedAgrees, maxRequests, TaskInBounds, InBounds}
 
 -- ---- where the figures of a resource stand
@@ -145,29 +145,10 @@ module _ (g : List ℕ) where
 -- ---- a table: its merged pairs, whether it has groups or not
 
 module _ (t : Table) where
-  by-group : (b : Bool) → hasGroup (t .groups) ≡ b → {A : Type 0} → (hasGroup (t .groups) ≡ true → A) → (NoGroup t → merged t ≡ t → A) → A
-  unfolding merged
-  by-group true e {A} some none = some e
-  by-group false e {A} some none = none (no-group-is t .0 e) (rw e)
-
-  -- "Without groups": the table as it is
-  pub none-merged : NoGroup t → merged t ≡ t
-  unfolding merged
-  none-merged z = rw (no-group-is t .1 z)
-
-  pub merged-cpus : merged t .cpus ≡ t .cpus
-  unfolding merged mergedTable
-  merged-cpus = by-group (hasGroup (t .groups)) refl some (λ z e. ap (λ (t : Table). t .cpus) e)
-    where
-      some : hasGroup (t .groups) ≡ true → merged t .cpus ≡ t .cpus
-      some e = rw e
-
-  pub merged-n : merged t .n ≡ t .n
-  unfolding merged mergedTable
-  merged-n = by-group (hasGroup (t .groups)) refl some (λ z e. ap (λ (t : Table). t .n) e)
-    where
-      some : hasGroup (t .groups) ≡ true → merged t .n ≡ t .n
-      some e = rw e
+  -- "Without groups": its tasks as they are
+  pub none-tasks : NoGroup t → mergedTasks t ≡ t .tasks
+  unfolding mergedTasks
+  none-tasks z = rw (no-group-is t .1 z)
 
   -- a task: its times and alpha as they are, and its merged pairs
   pub record MergedTask (x y : Task) : Type 0 where
@@ -178,17 +159,22 @@ module _ (t : Table) where
     pub pairs : (k : ℕ) → k < maxResources → pairOf y k ≡ mergedPair (t .groups) x k
 
   pub merged-task : (i : ℕ) → i < t .n → t .n ≤ maxTasks → MergedTask (taskAt t i) (taskAt (merged t) i)
-  unfolding merged mergedTable mergedTask
-  merged-task i h l = by-group (hasGroup (t .groups)) refl some (λ z e. rw e (none z))
+  unfolding mergedTasks groupedTasks mergedTask
+  merged-task i h l = go (hasGroup (t .groups)) refl
     where
-      none : NoGroup t → MergedTask (taskAt t i) (taskAt t i)
-      none z =
-          record { period = refl; run = refl; deadline = refl; alpha = refl; pairs = λ k h. sym (pair-alone (t .groups) (taskAt t i) k h (z k h)) }
-
-      some : hasGroup (t .groups) ≡ true → MergedTask (taskAt t i) (taskAt (merged t) i)
-      some e =
+      go : (b : Bool) → hasGroup (t .groups) ≡ b → MergedTask (taskAt t i) (taskAt (merged t) i)
+      go true e =
           rw (e, row-at maxTasks i (λ i. pick (ltb i (t .n)) (mergedTask (t .groups) (taskAt t i)) emptyTask) noTask (omega arith), lt-ltb i (t .n) h)
           (record { period = refl; run = refl; deadline = refl; alpha = refl; pairs = λ k q. row-at maxResources k (mergedPair (t .groups) (taskAt t i)) unusedPair q })
+      go false e =
+          rw e
+          (record {
+            period = refl;
+            run = refl;
+            deadline = refl;
+            alpha = refl;
+            pairs = λ k q. sym (pair-alone (t .groups) (taskAt t i) k q (no-group-is t .0 e k q));
+          })
 
   pub merged-pair : (i k : ℕ) → i < t .n → t .n ≤ maxTasks → k < maxResources → pairAt (merged t) i k ≡ mergedPair (t .groups) (taskAt t i) k
   merged-pair i k h l q = merged-task i h l .pairs k q
@@ -236,8 +222,8 @@ pub merged-bounds : (t : Table) → tableFault t ≡ Fine → InBounds (merged t
 merged-bounds t e =
     let a = fine-accepted t e in
     record {
-      tasks-most = rw (merged-n t) (a .tasks-most);
-      cpus-least = rw (merged-cpus t) (a .cpus-least);
-      cpus-most = rw (merged-cpus t) (a .cpus-most);
-      task = λ i h. let l = rw (merged-n t) at h in bounds-task t (taskAt t i) (taskAt (merged t) i) (merged-task t i l (a .tasks-most)) (a .task i l);
+      tasks-most = a .tasks-most;
+      cpus-least = a .cpus-least;
+      cpus-most = a .cpus-most;
+      task = λ i h. bounds-task t (taskAt t i) (taskAt (merged t) i) (merged-task t i h (a .tasks-most)) (a .task i h);
     }

@@ -33,16 +33,14 @@ mergedPair groups x k =
 unfoldable pub mergedTask : List ℕ → Task → Task
 mergedTask groups x = record { period = x .period; run = x .run; deadline = x .deadline; alpha = x .alpha; pairs = rowTo maxResources (mergedPair groups x) }
 
--- the merged pairs of a table, as a table that has no groups left. N of a merged pair can be 16,000: the check is never asked of it
-unfoldable pub mergedTable : Table → Table
-mergedTable t =
-    record {
-      cpus = t .cpus;
-      n = t .n;
-      groups = noGroups;
-      tasks = rowTo maxTasks (λ i. pick (ltb i (t .n)) (mergedTask (t .groups) (taskAt t i)) emptyTask);
-    }
+-- the tasks of a table with groups, with their merged pairs
+unfoldable pub groupedTasks : Table → List Task
+groupedTasks t = rowTo maxTasks (λ i. pick (ltb i (t .n)) (mergedTask (t .groups) (taskAt t i)) emptyTask)
 
--- what the analysis reads: of a table without groups, the table as it is
-unfoldable pub merged : Table → Table
-merged t = pick (hasGroup (t .groups)) (mergedTable t) t
+-- and of any table: without groups as they are
+unfoldable pub mergedTasks : Table → List Task
+mergedTasks t = pick (hasGroup (t .groups)) (groupedTasks t) (t .tasks)
+
+-- what the analysis reads: the merged pairs, as a table that has no groups left. N of a merged pair can be 16,000: the check is never asked of it
+abbrev pub merged : Table → Table
+merged t = record { cpus = t .cpus; n = t .n; groups = noGroups; tasks = mergedTasks t }

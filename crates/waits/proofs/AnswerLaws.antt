@@ -17,7 +17,7 @@ use Rattle.table.proofs.Acceptance.{fine-accepted}
 use Rattle.theory.specs.View.{level}
 use Rattle.theory.specs.Tables.{mergedView}
 use Rattle.theory.specs.Merge.{merged}
-use Rattle.theory.proofs.MergeLaws.{merged-n, merged-task}
+use Rattle.theory.proofs.MergeLaws.{merged-task}
 use Rattle.waits.specs.Wait.{waitOf}
 use Rattle.waits.specs.Answers.{noWaits, slotWait, waitsOf, waitsAfter, allWaits}
 use Rattle.waits.specs.Kept.{slotWaitBy, waitsBy}
@@ -31,7 +31,7 @@ none-all t e = go (tableFault t)
     go (Refused r) = (refl, refl)
 
 pub waits-merged : (t : Table) → tableFault t ≡ Fine → waitsBy (merged t) ≡ waitsOf t
-waits-merged t e = row-eq maxTasks (slotWaitBy (merged t)) (slotWait t) (λ i _. ap (λ (n : ℕ). pick (ltb i n) (waitOf (mergedView t) (alphaAt (merged t) i) (level i)) 0) (merged-n t) ∙ go i (ltb i (t .n)) refl)
+waits-merged t e = row-eq maxTasks (slotWaitBy (merged t)) (slotWait t) (λ i _. go i (ltb i (t .n)) refl)
   where
     go : (i : ℕ) (b : Bool) → ltb i (t .n) ≡ b
         → pick b (waitOf (mergedView t) (alphaAt (merged t) i) (level i)) 0 ≡ pick b (waitOf (mergedView t) (alphaAt t i) (level i)) 0

@@ -69,7 +69,7 @@ use Rattle.basics.proofs.RowLaws.{over-length, over-more, over-none}
 use Rattle.theory.specs.Groups.{InBounds}
 use Rattle.theory.specs.Tables.{viewOf}
 use Rattle.analysis.specs.Answers.{analysisFault, recordCount, recordBy, recordOf, readTable, analysed}
-use Rattle.analysis.proofs.RowLaws.{count-room, count-most, count-asks, row-last, read-asks, read-record}
+use Rattle.analysis.proofs.RowLaws.{count-room, count-most, count-asks, row-last, asks-read, record-read}
 use Rattle.analysis.proofs.Record as T
 use Rattle.analysis.proofs.Record.Laws as T′
 use Rattle.table.proofs.Table as B
@@ -287,7 +287,7 @@ module _ {M : Type 1} (𝓤 : URA M) (H : Heap 𝓤) (A : Atoms 𝓤) (W : Given
           assigns ! (bin ! (load ! (from ! (stop !)) (look ! 12 refl)) (load ! (from ! (stop !)) (look ! 16 refl)) tt) (from ! (stop !)) (init ! 10 refl (tt, tt)) $
           rewrite ! 10 (λ (y : Bool). ‵ (fat fullShare tyBool l₈ 0 (vbool y))) e refl $ stays ! (load ! (from ! (stop !)) (look ! 10 refl)) $
           -- `record_at`
-          use0 W (raw (RecordAt 𝓤 H A mem run .pre (to-record m v (i .0)))) (goes-record m v (i .0) m-is i-fits (read-asks t (i .0) is-read asked)) $
+          use0 W (raw (RecordAt 𝓤 H A mem run .pre (to-record m v (i .0)))) (goes-record m v (i .0) m-is i-fits (asks-read t (i .0) is-read asked)) $
           calls-at ! fm (RecordAt 𝓤 H A mem run) known-record (to-record m v (i .0)) (and-then ! (load ! (from ! (stop !)) (look ! 15 refl)) (and-then ! (load ! (from ! (stop !)) (look ! 23 refl)) (and-then ! (load ! (from ! (stop !)) (look ! 13 refl)) (no-more !)))) (λ w.
           use1 W (later (some (λ (r : Record). (‵ ftrue ⊛ ‵ (T.the-row .own r (w ∷ []))) ⊛ raw (ensured 𝓤 H A record-at.ended (record-at.clauses 𝓤 H A mem run) tt (m, (allowance, (i .0, tt))) tt r)))) (id⊢ 𝓤 _) $ await ! tt $ pick ! (λ r.
           split ! $ move ! (1 ∷ []) $ use1 W (raw (fact 𝓤 (r ≡ recordBy (viewOf m) allowance (i .0)))) (record-of 𝓤 H A mem run m allowance (i .0) r) $ heard ! (r ≡ recordBy (viewOf m) allowance (i .0)) (λ is-record.
@@ -301,7 +301,7 @@ module _ {M : Type 1} (𝓤 : URA M) (H : Heap 𝓤) (A : Atoms 𝓤) (W : Given
           elem-out ! T.the-row (Is T.the-row) (shows 𝓤 H A T.the-row) (LL.vals T.the-type T′.the-laws) (LL.tells T.the-type T′.the-laws) fullShare (zs (i .0)) (i .0) r b o within (λ _.
           -- [row[i]; what it owns; the others; the open borrow; obs; auth; _11; …; _10; …; _9; …]
           assigns ! (of-opd ! (load ! (from ! (stop !)) (look ! 10 refl))) (from ! (hop ! (look ! 6 refl) (stop !))) (store-raw ! 0 refl (typed r w is)) $
-          move ! (1 ∷ []) $ drop ! $ owned ! T.the-row (Is T.the-row) (LL.makes T.the-type T′.the-plain 𝓤 H A) (recordOf t allowance (i .0)) (w ∷ []) (subst (λ (y : Record). Is T.the-row y (w ∷ [])) (is-record ∙ read-record t (i .0) is-read allowance (asked .0)) is) $
+          move ! (1 ∷ []) $ drop ! $ owned ! T.the-row (Is T.the-row) (LL.makes T.the-type T′.the-plain 𝓤 H A) (recordOf t allowance (i .0)) (w ∷ []) (subst (λ (y : Record). Is T.the-row y (w ∷ [])) (is-record ∙ record-read t (i .0) is-read allowance (asked .0)) is) $
           move ! (1 ∷ 0 ∷ []) $ elem-put ! T.the-row fullShare (zs (i .0)) (i .0) (recordOf t allowance (i .0)) (w ∷ []) b o within $
           assigns-last ! (bin ! (load ! (from ! (stop !)) (look ! 12 refl)) (lit ! tt) (record { fits = next-fits })) (from ! (stop !)) (store ! 12 refl (tt, record { fits = next-fits })) $
           forget ! 4 refl $ forget ! 6 refl $ forget ! 8 refl $ forget ! 10 refl $

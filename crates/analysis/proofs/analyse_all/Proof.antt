@@ -13,7 +13,6 @@ use Rattle.table.specs.declared.Checked.the-variants.{Fine}
 use Rattle.table.specs.Limits.{maxTasks}
 use Rattle.table.specs.Faults.{_then_}
 use Rattle.theory.specs.Tables.{viewOf}
-use Rattle.theory.proofs.MergeLaws.{merged-n}
 use Rattle.theory.specs.Merge.{merged}
 use Rattle.analysis.specs.Answers.{allowanceFault, rowFault, analysisFault, recordBy, recordOf}
 use Rattle.analysis.proofs.RowLaws.{fits, row-fine, row-refused}
@@ -53,7 +52,7 @@ module _ (c : tie.After-enum-told Inv-loop μ-loop) where
   read = read-merged (s .args .t) (c .before .before .before .merge .ensures) (fits _ _ _ fine .0)
 
   tasks : c .before .before .before .merge .result .table .n ≡ s .args .t .n
-  tasks = ap (λ (t : Table). t .n) read ∙ merged-n (s .args .t)
+  tasks = ap (λ (t : Table). t .n) read
 
   few : s .args .t .n ≤ maxTasks
   few = omega (arith, fits _ _ _ fine .1, long s)
