@@ -8,7 +8,9 @@ use borrow.Author.Tests.{le-leb}
 use Rattle.table.specs.declared.Table.{Table}
 use Rattle.table.specs.declared.Reading.{Reading}
 use Rattle.table.specs.declared.Checked.the-variants.{Fine}
+use Rattle.table.specs.At.{NoGroup}
 use Rattle.table.specs.Rules.{tableFault}
+use Rattle.table.proofs.GroupLaws.{no-group-is}
 use Rattle.table.specs.Answers.{accepted}
 use Rattle.table.specs.Cleared.{cleared}
 use Rattle.listing.specs.Read.{readListing}
@@ -18,7 +20,7 @@ use Rattle.block.specs.Block.{blockSize}
 use Rattle.card.specs.Archive.{archiveOf, archivingFault, archivingAnswer, archiving, readArchive}
 use Rattle.card.proofs.ArchiveLaws.{archive-length}
 use Rattle.release.specs.Undo.{Bytes}
-use Rattle.release.proofs.Undo.{reads-back, drops-alpha, alpha-alone, writes-again, same-archive, one-archive, reads-none, passes-check}
+use Rattle.release.proofs.Undo.{reads-back, drops-alpha, alpha-alone, writes-again, same-archive, one-archive, reads-none, reads-ungrouped, passes-check}
 use Rattle.release.proofs.Noticed.{noticed}
 use Rattle.promises.specs.Words.{Writes}
 use Rattle.promises.specs.Archives.{Archives}
@@ -28,14 +30,15 @@ listing-clear : (s : List ℕ) (t : Table) → readListing s ≡ accepted t → 
 listing-clear s t e = ap (λ (r : Reading). r .table) (sym (text-back t (listing-passes s t e)) ∙ rewrites s t e)
 
 card-clear : (a : List ℕ) (t : Table) → Bytes a → readArchive a ≡ accepted t → cleared t ≡ t
-card-clear a t bytes e = ap (λ (r : Reading). r .table) (sym (reads-back t (passes-check a t e) (reads-none a t e)) ∙ ap readArchive (writes-again a t bytes e) ∙ e)
+card-clear a t bytes e = ap (λ (r : Reading). r .table) (sym (reads-back t (passes-check a t e) (reads-none a t e) (reads-ungrouped a t e)) ∙ ap readArchive (writes-again a t bytes e) ∙ e)
 
 -- the output of an archive, where there is room
-archive-written : (t : Table) (out : List ℕ) → tableFault t ≡ Fine → blockSize * t .n ≤ length out → Writes (archiveOf t) out (archivingAnswer t (length out)) (archiving t out)
+archive-written : (t : Table) (out : List ℕ) → tableFault t ≡ Fine → NoGroup t → blockSize * t .n ≤ length out → Writes (archiveOf t) out (archivingAnswer t (length out)) (archiving t out)
 unfolding archivingFault archivingAnswer archiving
-archive-written t out e h =
+archive-written t out e z h =
+    let g = no-group-is t .1 z in
     let r = le-leb (blockSize * t .n) (length out) h in
-    record { wrote = rw (e, r, archive-length t); output = rw (e, r) }
+    record { wrote = rw (e, g, r, archive-length t); output = rw (e, g, r) }
 
 pub archives-hold : Archives
 archives-hold =
@@ -48,8 +51,9 @@ archives-hold =
       same-archive = same-archive;
       one-archive = one-archive;
       reads-none = reads-none;
+      reads-ungrouped = reads-ungrouped;
       passes-check = passes-check;
       noticed = noticed;
-      from-listing = λ s t e none. reads-back t (listing-passes s t e) none ∙ ap accepted (listing-clear s t e);
+      from-listing = λ s t e none ungrouped. reads-back t (listing-passes s t e) none ungrouped ∙ ap accepted (listing-clear s t e);
       from-card = λ a t bytes e. (text-back t (passes-check a t e) ∙ ap accepted (card-clear a t bytes e), writes-again a t bytes e);
     }

@@ -13,7 +13,7 @@ use Rattle.page.specs.Pages.{fitsPage}
 use base.Logic.{id⊢}
 use Rattle.basics.specs.Over.{joinTo}
 use Rattle.table.proofs.Determined.{number-determined, empty-determined}
-use Rattle.rules.proofs.Determined.{first-of-determined, in-range-determined, times-in-range-determined, times-in-order-determined, times-determined, all-or-none-determined, alpha-determined, used-in-range-determined, totals-fit-determined, pair-determined, asked-determined}
+use Rattle.rules.proofs.Determined.{first-of-determined, in-range-determined, times-in-range-determined, times-in-order-determined, times-determined, groups-in-range-determined, has-group-determined, all-or-none-determined, alpha-determined, used-in-range-determined, totals-fit-determined, pair-determined, asked-determined}
 use Rattle.checking.proofs.Determined.{check-determined}
 use Rattle.field.proofs.Determined.{time-determined, count-determined, ends-at-determined}
 use Rattle.put.proofs.Determined.{put-time-determined, put-count-determined, put-text-determined, spaced-count-determined, put-length-determined, count-len-determined, time-len-determined}
@@ -37,6 +37,7 @@ use Rattle.recovery.proofs.Listed.{list-kept, list-written}
 use Rattle.analysis.specs.Answers.{recordCount, analysed}
 use Rattle.analysis.proofs.Determined.{bound-determined, analyse-all-determined, analyse-determined}
 use Rattle.waits.proofs.Determined.{wait-determined, wait-all-determined}
+use Rattle.merging.proofs.Determined.{merge-determined}
 use Rattle.page.proofs.Determined.{page-of-determined, put-page-determined}
 use Rattle.promises.specs.Demand1.{Entries, Determines, Keeps, KeepsOrLists, Demand1}
 use Rattle.promises.proofs.RefusalsHold.{first-decides}
@@ -57,6 +58,7 @@ entries =
       salvage-answers = λ κs a r x p. p .0;
       salvage-lists = λ κs a r x p. p .1;
       salvage-leaves = λ κs a r x p. p .2;
+      merge = λ a r x p. p;
       bound = λ a r x p. p;
       wait = λ a r x p. p;
       wait-all = λ a r x p. p;
@@ -75,6 +77,8 @@ determines =
       times-in-range = times-in-range-determined;
       times-in-order = times-in-order-determined;
       times = times-determined;
+      groups-in-range = groups-in-range-determined;
+      has-group = has-group-determined;
       all-or-none = all-or-none-determined;
       alpha = alpha-determined;
       used-in-range = used-in-range-determined;
@@ -105,6 +109,7 @@ determines =
       code = code-determined;
       blocks-of = blocks-of-determined;
       salvage = salvage-determined;
+      merge = merge-determined;
       bound = bound-determined;
       outcome-of = outcome-of-determined;
       shares-of = shares-of-determined;

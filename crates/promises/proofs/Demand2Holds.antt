@@ -16,6 +16,8 @@ use Rattle.theory.specs.declared.Counted.{Counted}
 use Rattle.theory.specs.Work.{workload}
 use Rattle.theory.specs.View.{level}
 use Rattle.theory.specs.Bound.{Least}
+use Rattle.theory.specs.Merge.{merged}
+use Rattle.theory.proofs.MergeLaws.{merged-bounds}
 use Rattle.theory.proofs.WorkLaws.{workload-rises}
 use Rattle.theory.proofs.AllowanceLaws.{open-above, open-count}
 use Rattle.theory.proofs.EndLaws.{Right, meets-if, misses-if}
@@ -23,7 +25,7 @@ use Rattle.theory.proofs.DemandLaws.{demand-start}
 use Rattle.analysis.specs.declared.Answer.the-variants.{Known}
 use Rattle.theory.specs.Tables.{mergedView, countedBy, countedIn}
 use Rattle.analysis.specs.declared.Record.{Record}
-use Rattle.analysis.specs.Answers.{boundOf, analysisFault, recordOf}
+use Rattle.analysis.specs.Answers.{boundOf, analysisFault, recordOf, recordBy}
 use Rattle.analysis.proofs.ByRounds.{rounds-end, rounds-right, bound-known}
 use Rattle.analysis.proofs.RowLaws.{fits, allowed, count-fine, row-record, row-past, row-long}
 use Rattle.meaning.proofs.Meaning.{correct, complete, passes-check}
@@ -39,16 +41,16 @@ module _ (t : Table) (i allowance : ℕ) (fine : tableFault t ≡ Fine) (h : i <
   v = countedIn t allowance (level i) .verdict
 
   right : Right (demandIn t i) (deadlineIn t i) v
-  unfolding v countedIn
-  right = rounds-right workload workload-rises t i fine h allowance
+  unfolding v countedBy
+  right = rounds-right workload workload-rises (merged t) i (merged-bounds t fine) h allowance
 
   as-right : {w : Verdict} → v ≡ w → Right (demandIn t i) (deadlineIn t i) w
   as-right e = rw e at right
 
   opens : (v ≡ Open) exactly-if ((n : ℕ) × CountIn t i n × (allowance < n))
-  unfolding v countedIn
+  unfolding v countedBy
   opens =
-      let c = rounds-end workload workload-rises t i fine h in
+      let c = rounds-end workload workload-rises (merged t) i (merged-bounds t fine) h in
       (λ e. (c .0, c .1, open-count _ _ allowance _ (c .0) (c .1) e), λ x. open-above _ _ allowance _ (x .0) (x .1) (x .2))
 
   right-verdict : RightVerdict t i allowance v
@@ -67,7 +69,7 @@ verdicts t i allowance fine h a = (countedIn t allowance (level i), bound-known 
 
 -- the row, where nothing is said against it and the table
 right-row : (t : Table) (allowance : ℕ) (row : List Record) → analysisFault t allowance (length row) ≡ Fine → RightRow t allowance row
-unfolding recordOf
+unfolding recordBy
 right-row t allowance row e =
     let f = fits t allowance (length row) e in
     let w = count-fine t allowance (length row) e in

@@ -8,13 +8,14 @@ use Rattle.basics.specs.Over.{sumTo, maxTo, allTo, firstTo}
 use Rattle.table.specs.declared.Table.{Table}
 use Rattle.table.specs.declared.Checked.the-variants.{Fine}
 use Rattle.table.specs.Faults.{firstFault}
-use Rattle.table.specs.Rules.{timesInRange, timesInOrder, timesFault, isUnused, usedInRange, pairInRange, totalsFit, pairFault, pairsFault, alphaFault, taskFault, lastAlpha, tasksFault, tableFault}
+use Rattle.table.specs.Rules.{timesInRange, timesInOrder, timesFault, isUnused, usedInRange, pairInRange, totalsFit, pairFault, pairsFault, alphaFault, taskFault, lastAlpha, tasksFault, tableFault, groupsInRange, hasGroup}
 use Rattle.theory.specs.declared.Verdict.the-variants.{Meets, Misses}
 use Rattle.theory.specs.Work.{uncapped, workload, jobs, ceilDiv}
 use Rattle.theory.specs.View.{level, ceiling}
 use Rattle.theory.specs.Demand.{sharedCT, otherCT, allCT, highCT, DB, S, O, F, L, demandWith, unitsRead}
 use Rattle.theory.specs.Rounds.{countedFrom}
 use Rattle.theory.specs.Tables.{mergedView}
+use Rattle.theory.specs.Merge.{mergedTasks}
 use Rattle.promises.specs.NoEasier.{Related}
 use Rattle.promises.specs.NotEmpty.{on, tasksA}
 use Rattle.promises.specs.Reads.{FigureKind, processors, tasks, run, deadline, requests, periodAbove, deadlineAbove, shared, other, free, periodBelow, deadlineBelow, high, longest, SameBut}
@@ -43,7 +44,7 @@ module _ {a b : Table} (i j k : ℕ) (e : tableFault a ≡ Fine) (f : tableFault
     tells-miss s l m c d = lost-by j k (but s) l m c d
 
 pub each-read : EachRead
-unfolding on allTo sumTo maxTo firstTo firstFault timesInRange timesInOrder timesFault isUnused usedInRange pairInRange totalsFit pairFault pairsFault alphaFault taskFault lastAlpha tasksFault tableFault uncapped workload jobs ceilDiv ceiling sharedCT otherCT allCT highCT DB S O F L demandWith countedFrom unitsRead agreesOn numbered unchanged
+unfolding on allTo sumTo maxTo firstTo firstFault timesInRange timesInOrder timesFault isUnused usedInRange pairInRange totalsFit pairFault pairsFault alphaFault taskFault lastAlpha tasksFault tableFault uncapped workload jobs ceilDiv ceiling sharedCT otherCT allCT highCT DB S O F L demandWith countedFrom unitsRead agreesOn numbered unchanged groupsInRange mergedTasks hasGroup
 each-read =
     record {
       unread =

@@ -9,12 +9,13 @@ use Rattle.table.specs.declared.Table.{Table}
 use Rattle.table.specs.declared.Checked.the-variants.{Fine}
 use Rattle.table.specs.Limits.{maxResources}
 use Rattle.table.specs.Rules.{tableFault}
-use Rattle.table.proofs.Acceptance.{fine-accepted}
 use Rattle.theory.specs.View.{View}
 use Rattle.theory.specs.Demand.{allCT}
+use Rattle.theory.specs.Merge.{merged}
 use Rattle.theory.specs.Tables.{mergedView}
+use Rattle.theory.proofs.MergeLaws.{merged-bounds}
 use Rattle.theory.proofs.LeastLaws.{least-unique}
-use Rattle.analysis.proofs.ByRounds.{fine-runs}
+use Rattle.analysis.proofs.ByRounds.{bounds-runs}
 use Rattle.promises.specs.Words.{readTable}
 use Rattle.promises.specs.NoEasier.{NoEasier, KeepsBounds, Harder, Longer, LongerButFree, OneResult}
 use Rattle.promises.specs.NotEmpty.{holding, holdingLonger}
@@ -24,9 +25,9 @@ use Rattle.promises.proofs.NotEmptyHolds.{two-tasks, falls}
 fine-fits : (t : Table) → tableFault t ≡ Fine → Fits (mergedView t)
 unfolding allCT
 fine-fits t e =
-    let a = fine-accepted t e in
+    let a = merged-bounds t e in
     record {
-      runs = fine-runs t e;
+      runs = bounds-runs (merged t) a;
       run-deadline = λ l h. a .task l h .times .run-deadline;
       deadline-period = λ l h. a .task l h .times .deadline-period;
       totals = λ l h. a .task l h .totals;

@@ -9,11 +9,11 @@ use Rattle.table.specs.declared.Table.{Table}
 use Rattle.table.specs.declared.Checked.the-variants.{Fine}
 use Rattle.table.specs.Empty.{emptyTask, emptyTable}
 use Rattle.table.specs.Faults.{firstFault}
-use Rattle.table.specs.Rules.{timesInRange, timesInOrder, timesFault, isUnused, usedInRange, pairInRange, totalsFit, pairFault, pairsFault, alphaFault, taskFault, lastAlpha, tasksFault, tableFault}
+use Rattle.table.specs.Rules.{timesInRange, timesInOrder, timesFault, isUnused, usedInRange, pairInRange, totalsFit, pairFault, pairsFault, alphaFault, taskFault, lastAlpha, tasksFault, tableFault, groupsInRange, hasGroup}
 use Rattle.field.specs.Number.{rounded, fraction, timeField, countField}
 use Rattle.put.specs.Text.{width, countText}
 use Rattle.line.specs.Fields.{fieldCount}
-use Rattle.line.specs.Line.{cpusLine, taskLine, useLine, lineSays}
+use Rattle.line.specs.Line.{cpusLine, taskLine, useLine, lineSays, groupLine}
 use Rattle.listing.specs.Read.{pastAfter, newTask, tableAfter, readEnd, readLines, readListing}
 use Rattle.theory.specs.declared.Verdict.{Verdict}
 use Rattle.theory.specs.declared.Verdict.the-variants.{Meets, Misses}
@@ -26,6 +26,8 @@ use Rattle.theory.specs.Tables.{mergedView}
 use Rattle.theory.proofs.WorkLaws.{workload-rises}
 use Rattle.theory.proofs.EndLaws.{Right}
 use Rattle.analysis.proofs.ByRounds.{by-rounds}
+use Rattle.theory.specs.Merge.{mergedTasks, merged}
+use Rattle.theory.proofs.MergeLaws.{merged-bounds}
 use Rattle.promises.specs.Words.{readTable}
 use Rattle.promises.specs.Demand2.{demandIn, runIn, deadlineIn}
 use Rattle.promises.specs.NoEasier.{Compared, LongerButFree, Related}
@@ -38,7 +40,7 @@ countedAt t i k = countedFrom (demandIn t i) (deadlineIn t i) k (runIn t i)
 
 -- a verdict after k rounds
 after : (t : Table) (i k : ℕ) {v : Verdict} → tableFault t ≡ Fine → T (ltb i (t .n)) → countedAt t i k ≡ record { verdict = v; rounds = k } → Right (demandIn t i) (deadlineIn t i) v
-after t i k e h c = by-rounds workload workload-rises t i e (lit< h) k c
+after t i k e h c = by-rounds workload workload-rises (merged t) i (merged-bounds t e) (lit< h) k c
 
 -- a bound after j rounds goes to one after k, or to a miss, in tables that are related in whatever way
 module _ {R : View → View → Type 0} {a b : Table} {i : ℕ} (j k : ℕ) (r : Related R a b) (h : T (ltb i (a .n))) (h' : T (ltb i (b .n))) where
@@ -61,15 +63,15 @@ module _ {rest run free : ℕ → ℕ → Type 0} (p : Tested rest) (q : Tested 
   lost j k e f h l m c d = lost-by j k (related-by e f h) l m c d
 
 pub two-tasks : 1 < readTable holding .n
-unfolding sumTo emptyTask emptyTable firstFault timesInRange timesInOrder timesFault isUnused usedInRange pairInRange totalsFit pairFault rounded fraction timeField countField width countText fieldCount cpusLine taskLine useLine lineSays pastAfter newTask tableAfter readEnd readLines readListing
+unfolding sumTo emptyTask emptyTable firstFault timesInRange timesInOrder timesFault isUnused usedInRange pairInRange totalsFit pairFault rounded fraction timeField countField width countText fieldCount cpusLine taskLine useLine lineSays pastAfter newTask tableAfter readEnd readLines readListing groupLine
 two-tasks = lit< tt
 
 pub falls : Moves LongerButFree (readTable holding) (readTable holdingLonger) 1 5_000 3_000
-unfolding allTo rules sumTo maxTo firstTo emptyTask emptyTable firstFault timesInRange timesInOrder timesFault isUnused usedInRange pairInRange totalsFit pairFault pairsFault alphaFault taskFault lastAlpha tasksFault tableFault rounded fraction timeField countField width countText fieldCount cpusLine taskLine useLine lineSays pastAfter newTask tableAfter readEnd readLines readListing uncapped workload jobs ceilDiv ceiling sharedCT otherCT allCT highCT DB S O F L demandWith countedFrom
+unfolding allTo rules sumTo maxTo firstTo emptyTask emptyTable firstFault timesInRange timesInOrder timesFault isUnused usedInRange pairInRange totalsFit pairFault pairsFault alphaFault taskFault lastAlpha tasksFault tableFault rounded fraction timeField countField width countText fieldCount cpusLine taskLine useLine lineSays pastAfter newTask tableAfter readEnd readLines readListing uncapped workload jobs ceilDiv ceiling sharedCT otherCT allCT highCT DB S O F L demandWith countedFrom groupsInRange mergedTasks hasGroup groupLine
 falls = moves equal at-most any 3 3 refl refl refl tt tt refl refl
 
 pub not-empty : NotEmpty
-unfolding on allTo rules sumTo maxTo firstTo firstFault timesInRange timesInOrder timesFault isUnused usedInRange pairInRange totalsFit pairFault pairsFault alphaFault taskFault lastAlpha tasksFault tableFault uncapped workload jobs ceilDiv ceiling sharedCT otherCT allCT highCT DB S O F L demandWith countedFrom
+unfolding on allTo rules sumTo maxTo firstTo firstFault timesInRange timesInOrder timesFault isUnused usedInRange pairInRange totalsFit pairFault pairsFault alphaFault taskFault lastAlpha tasksFault tableFault uncapped workload jobs ceilDiv ceiling sharedCT otherCT allCT highCT DB S O F L demandWith countedFrom groupsInRange mergedTasks hasGroup
 not-empty =
     record {
       harder =

@@ -40,7 +40,7 @@ use Rattle.promises.proofs.EachReadHolds.{each-read}
 
 -- the faults are the same, and so are the rounds, whose demand, deadline and run time are
 same : SameAnswers SameRead
-unfolding boundOf boundFault countedIn AgreeOn
+unfolding boundOf boundFault countedBy AgreeOn
 same a b i r h allowance =
     let q = r .related in
     let demand = demand-same (mergedView a) (mergedView b) (fine-fitting a (r .first)) (level i) q in

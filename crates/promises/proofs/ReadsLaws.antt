@@ -1,8 +1,7 @@
 -- The tasks that the demand of a task reads are those of which some units count in it.
 -- Assumes nothing.
 use Prim.Native.Nat.{ℕ, suc, _≤_, _<_}
-use mathlib.Core.Path.{_≡_, ap}
-use mathlib.Core.Logic.{_⊎_, inl, inr}
+use mathlib.Core.Path.{_≡_, sym, _∙_}
 use mathlib.Core.Bool.{Bool, true}
 use native.Mathlib.Decide.{decLe, decLt}
 use native.Mathlib.Omega.{arith}
@@ -13,20 +12,18 @@ use Rattle.basics.proofs.ChoiceLaws.{only-some}
 use Rattle.basics.proofs.SumLaws.{sum-part, sum-found}
 use Rattle.table.specs.declared.Level.{Level}
 use Rattle.table.specs.declared.Resource.{Resource}
-use Rattle.table.specs.declared.Pair.{Pair}
 use Rattle.table.specs.declared.Table.{Table}
 use Rattle.table.specs.declared.Checked.the-variants.{Fine}
 use Rattle.table.specs.Limits.{maxResources}
 use Rattle.table.specs.Rules.{tableFault}
-use Rattle.table.specs.Empty.{unusedPair}
-use Rattle.table.specs.Accepted.{GoodPair}
-use Rattle.table.proofs.Acceptance.{fine-accepted}
 use Rattle.theory.specs.View.{View, level, resource, isAbove, overResources, uses, ceiling}
 use Rattle.theory.specs.Demand.{sharedCT, highCT, unitsRead}
 use Rattle.theory.specs.Tables.{mergedView}
+use Rattle.theory.proofs.MergeLaws.{merged-bounds}
 use Rattle.theory.proofs.PassLaws.{split-all}
 use Rattle.promises.specs.NoEasier.{eachTask, eachPair}
 use Rattle.promises.specs.Reads.{Above, LongForm, Reads, sharing, higher, lower}
+use Rattle.promises.proofs.MergedLaws.{used-test}
 
 -- what the check leaves of a table, as far as these laws need it: a pair has units exactly if it is in use, and every task runs
 pub record Fitting (v : View) : Type 0 where
@@ -34,22 +31,12 @@ pub record Fitting (v : View) : Type 0 where
   pub counts : eachPair v (λ l k. uses v l k ≡ true → 1 ≤ v .CT l k)
   pub runs : eachTask v (λ l. 1 ≤ v .C l)
 
--- a pair has units where it is in use, and only there
-pair-used : (p : Pair) → (p ≡ unusedPair) ⊎ GoodPair p → 1 ≤ p .total → ltb 0 (p .requests) ≡ true
-pair-used p (inl e) h = let z : p .total ≡ 0 = ap (λ (x : Pair). x .total) e in absurd (omega arith)
-pair-used p (inr g) h = lt-ltb 0 _ (g .requests-least)
-
-pair-counts : (p : Pair) → (p ≡ unusedPair) ⊎ GoodPair p → ltb 0 (p .requests) ≡ true → 1 ≤ p .total
-pair-counts p (inl e) u = let z : p .requests ≡ 0 = ap (λ (x : Pair). x .requests) e in absurd (omega (arith, ltb-true 0 (p .requests) u))
-pair-counts p (inr g) u = omega (arith, g .longest-least, g .longest-total)
-
 pub fine-fitting : (t : Table) → tableFault t ≡ Fine → Fitting (mergedView t)
 fine-fitting t e =
-    let a = fine-accepted t e in
     record {
-      used = λ l k h r. pair-used _ (a .task l h .pair k r);
-      counts = λ l k h r. pair-counts _ (a .task l h .pair k r);
-      runs = λ l h. a .task l h .times .run-least;
+      used = λ l k h r c. used-test t e l k h r ∙ lt-ltb 0 _ c;
+      counts = λ l k h r u. ltb-true 0 _ (sym (used-test t e l k h r) ∙ u);
+      runs = λ l h. merged-bounds t e .task l h .times .run-least;
     }
 
 pub above-is : (l i : Level) → Above l i → isAbove l i ≡ true

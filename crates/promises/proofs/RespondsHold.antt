@@ -9,19 +9,18 @@ use native.Mathlib.Omega.{arith}
 use lib.Dec.{ltb, lit<, lit≤}
 use borrow.Author.Tests.{ltb-true}
 use lib.ListN.{getD}
-use Rattle.basics.specs.Over.{sumTo}
+use Rattle.basics.specs.Over.{sumTo, allTo}
 use Rattle.basics.specs.Text.{bytes}
 use Rattle.table.specs.declared.Table.{Table}
 use Rattle.table.specs.declared.Checked.the-variants.{Fine}
 use Rattle.table.specs.Empty.{emptyTask, emptyTable}
 use Rattle.table.specs.Answers.{accepted}
 use Rattle.table.specs.Faults.{firstFault}
-use Rattle.table.specs.Rules.{timesInRange, timesInOrder, timesFault, isUnused, usedInRange, pairInRange, totalsFit, pairFault, pairsFault, alphaFault, taskFault, lastAlpha, tasksFault, tableFault}
-use Rattle.table.proofs.Acceptance.{fine-accepted}
+use Rattle.table.specs.Rules.{timesInRange, timesInOrder, timesFault, isUnused, usedInRange, pairInRange, totalsFit, pairFault, pairsFault, alphaFault, taskFault, lastAlpha, tasksFault, tableFault, groupsInRange, hasGroup}
 use Rattle.theory.specs.declared.Verdict.the-variants.{Meets}
 use Rattle.field.specs.Number.{rounded, fraction, timeField, countField}
 use Rattle.line.specs.Fields.{fieldCount}
-use Rattle.line.specs.Line.{cpusLine, taskLine, useLine, lineSays}
+use Rattle.line.specs.Line.{cpusLine, taskLine, useLine, lineSays, groupLine}
 use Rattle.listing.specs.Read.{pastAfter, newTask, tableAfter, readEnd, readLines, readListing}
 use Rattle.theory.specs.declared.Counted.{Counted}
 use Rattle.theory.specs.Work.{workload}
@@ -30,6 +29,8 @@ use Rattle.theory.specs.View.{View, level}
 use Rattle.theory.specs.Demand.{allCT}
 use Rattle.theory.specs.Bound.{Least}
 use Rattle.theory.specs.Tables.{mergedView, countedBy, countedIn}
+use Rattle.theory.specs.Merge.{mergedTasks, merged}
+use Rattle.theory.proofs.MergeLaws.{merged-bounds}
 use Rattle.theory.proofs.WorkLaws.{workload-rises}
 use Rattle.schedules.specs.Jobs.{Generated}
 use Rattle.schedules.specs.Schedule.{UnderPIP}
@@ -59,7 +60,7 @@ no-requests N (suc x) u z = absurd (omega (arith, ltb-true 0 N (u (omega arith))
 fine-constrained : (t : Table) → tableFault t ≡ Fine → Constrained (mergedView t)
 unfolding allCT
 fine-constrained t e =
-    let a = fine-accepted t e in
+    let a = merged-bounds t e in
     record {
       some = a .cpus-least;
       positive = λ l h. let g = a .task l h .times in omega arith;
@@ -71,11 +72,11 @@ fine-constrained t e =
 
 -- what `bound` answers with `meets` is the least length that covers its demand
 met-least : (t : Table) (i allowance : ℕ) (r : Counted) (u : ℕ) → boundOf t (level i) allowance ≡ Known r → r .verdict ≡ Meets u → Least (demandIn t i) (deadlineIn t i) u
-unfolding countedIn
+unfolding countedBy
 met-least t i allowance r u e m =
     let k = known t i allowance e in
     let v : countedIn t allowance (level i) .verdict ≡ Meets u = ap (λ (c : Counted). c .verdict) (k .3) ∙ m in
-    rw v at (rounds-right workload workload-rises t i (k .0) (k .1) allowance)
+    rw v at (rounds-right workload workload-rises (merged t) i (merged-bounds t (k .0)) (k .1) allowance)
 
 -- a set of tasks that read no others is closed
 reads-closed : (t : Table) → tableFault t ≡ Fine → (X : ℕ → Type 0) → ReadNoOther t X → Closed (mergedView t) X
@@ -90,11 +91,11 @@ others-meet columns allowance s t row X micros p c m k pos J o S E r i h x =
     (record { low = λ i h x. least i h x .low; high = λ i h x. least i h x .high; covers = λ i h x. least i h x .meets }) k pos J o S E r i h x
 
 shown-listing : readListing (bytes shownListing) ≡ accepted shownTable
-unfolding shownTable sumTo emptyTask emptyTable firstFault timesInRange timesInOrder timesFault isUnused usedInRange pairInRange totalsFit pairFault pairsFault alphaFault taskFault lastAlpha tasksFault tableFault rounded fraction timeField countField fieldCount cpusLine taskLine useLine lineSays pastAfter newTask tableAfter readEnd readLines readListing
+unfolding shownTable sumTo emptyTask emptyTable firstFault timesInRange timesInOrder timesFault isUnused usedInRange pairInRange totalsFit pairFault pairsFault alphaFault taskFault lastAlpha tasksFault tableFault rounded fraction timeField countField fieldCount cpusLine taskLine useLine lineSays pastAfter newTask tableAfter readEnd readLines readListing groupsInRange allTo groupLine
 shown-listing = refl
 
 miss-listing : readListing (bytes missListing) ≡ accepted missTable
-unfolding missTable sumTo emptyTask emptyTable firstFault timesInRange timesInOrder timesFault isUnused usedInRange pairInRange totalsFit pairFault pairsFault alphaFault taskFault lastAlpha tasksFault tableFault rounded fraction timeField countField fieldCount cpusLine taskLine useLine lineSays pastAfter newTask tableAfter readEnd readLines readListing
+unfolding missTable sumTo emptyTask emptyTable firstFault timesInRange timesInOrder timesFault isUnused usedInRange pairInRange totalsFit pairFault pairsFault alphaFault taskFault lastAlpha tasksFault tableFault rounded fraction timeField countField fieldCount cpusLine taskLine useLine lineSays pastAfter newTask tableAfter readEnd readLines readListing groupsInRange allTo groupLine
 miss-listing = refl
 
 -- what `report` says of a task that has a bound
@@ -106,13 +107,13 @@ least-met s t row p i u h l =
     ap (λ (c : Counted). c .verdict) (sym same) ∙ v .2 .meets (rounds-hold .never-open t i (v .0) (v .1)) u .1 l
 
 shown-rows : (row : ℕ → Counted) × PrintsRows Five reportAllowance (bytes shownListing) shownTable row × RowsMeet shownTable row (λ i. Unit) (λ i. getD shownBounds i 0)
-unfolding shownTable
+unfolding shownTable mergedTasks hasGroup allTo
 shown-rows =
     let p = rounds-hold .prints Five reportAllowance (bytes shownListing) shownTable some-allowed shown-listing in
     (p .0, p .1, λ i h x. least-met (bytes shownListing) shownTable (p .0) (p .1) i (getD shownBounds i 0) h (shown-holds .bounded i h))
 
 not-alone : ((columns : Columns) (allowance : ℕ) (s : List ℕ) (t : Table) (row : ℕ → Counted) (i u : ℕ) → PrintsRows columns allowance s t row → i < t .n → row i .verdict ≡ Meets u → NoJobLonger t (λ l. l ≡ i) (λ l. u)) → ⊥
-unfolding missTable jobsOf
+unfolding missTable jobsOf mergedTasks hasGroup allTo
 not-alone claim =
     let p = rounds-hold .prints Five reportAllowance (bytes missListing) missTable some-allowed miss-listing in
     let m = least-met (bytes missListing) missTable (p .0) (p .1) 1 4 (lit< tt) (miss-holds .meets) in

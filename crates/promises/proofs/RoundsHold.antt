@@ -10,7 +10,7 @@ use Rattle.basics.specs.Over.{sumTo, maxTo, allTo, firstTo}
 use Rattle.table.specs.declared.Table.{Table}
 use Rattle.table.specs.declared.Checked.the-variants.{Fine}
 use Rattle.table.specs.Faults.{firstFault}
-use Rattle.table.specs.Rules.{timesInRange, timesInOrder, timesFault, isUnused, usedInRange, pairInRange, totalsFit, pairFault, pairsFault, alphaFault, taskFault, lastAlpha, tasksFault, tableFault}
+use Rattle.table.specs.Rules.{timesInRange, timesInOrder, timesFault, isUnused, usedInRange, pairInRange, totalsFit, pairFault, pairsFault, alphaFault, taskFault, lastAlpha, tasksFault, tableFault, groupsInRange, hasGroup}
 use Rattle.table.proofs.Acceptance.{fine-accepted}
 use Rattle.table.specs.Answers.{accepted}
 use Rattle.listing.specs.Read.{readListing}
@@ -32,6 +32,8 @@ use Rattle.page.specs.declared.Columns.{Columns}
 use Rattle.page.specs.declared.Columns.the-variants.{Five}
 use Rattle.page.specs.Report.{reportAllowance, benchAllowance}
 use Rattle.meaning.proofs.Meaning.{passes-check}
+use Rattle.theory.specs.Merge.{mergedTasks, merged}
+use Rattle.theory.proofs.MergeLaws.{merged-bounds}
 use Rattle.promises.specs.Demand2.{deadlineIn, runIn, CountIn}
 use Rattle.promises.specs.NoEasier.{NoEasier, Related}
 use Rattle.promises.specs.NotEmpty.{on, tasksA}
@@ -46,10 +48,10 @@ use Rattle.promises.proofs.NoEasierHolds.{one}
 module _ (t : Table) (i : ℕ) (fine : tableFault t ≡ Fine) (h : i < t .n) where
   -- the count, and that it is at most D − C + 1
   end : (n : ℕ) × CountIn t i n × (n ≤ deadlineIn t i - runIn t i + 1)
-  end = rounds-end workload workload-rises t i fine h
+  end = rounds-end workload workload-rises (merged t) i (merged-bounds t fine) h
 
   rounds-of : (allowance : ℕ) → RightRounds t i allowance (countedIn t allowance (level i))
-  unfolding countedIn
+  unfolding countedBy
   rounds-of allowance =
       record {
         runs-out = (λ e. open-rounds _ _ allowance _ e .1, going-open _ _ allowance _);
@@ -62,11 +64,11 @@ right : (t : Table) (i allowance : ℕ) (r : Counted) → boundOf t (level i) al
 right t i allowance r e = let k = known t i allowance e in rw (k .3) at (rounds-of t i (k .0) (k .1) allowance)
 
 never-open : (t : Table) (i : ℕ) (r : Counted) → boundOf t (level i) reportAllowance ≡ Known r → r .verdict ≡ Open → ⊥
-unfolding countedIn reportAllowance
+unfolding countedBy reportAllowance
 never-open t i r e o =
     let k = known t i reportAllowance e in
     let c = end t i (k .0) (k .1) in
-    let g = fine-accepted t (k .0) .task i (k .1) .times in
+    let g = merged-bounds t (k .0) .task i (k .1) .times in
     omega (arith, c .2, open-count _ _ reportAllowance _ (c .0) (c .1) (ap (λ (r : Counted). r .verdict) (k .3) ∙ o))
 
 -- what `report` answers of a task in the second is a bound, so there is one in the first, no larger, and it answers that
@@ -101,7 +103,7 @@ printed s s' a b e f r =
     }
 
 overtakes : Overtakes (on 2 tasksA) (on 1 tasksA) 2 benchAllowance 22_000 4
-unfolding benchAllowance on allTo rules sumTo maxTo firstTo firstFault timesInRange timesInOrder timesFault isUnused usedInRange pairInRange totalsFit pairFault pairsFault alphaFault taskFault lastAlpha tasksFault tableFault uncapped workload jobs ceilDiv ceiling sharedCT otherCT allCT highCT DB S O F L demandWith countedFrom countedIn
+unfolding benchAllowance on allTo rules sumTo maxTo firstTo firstFault timesInRange timesInOrder timesFault isUnused usedInRange pairInRange totalsFit pairFault pairsFault alphaFault taskFault lastAlpha tasksFault tableFault uncapped workload jobs ceilDiv ceiling sharedCT otherCT allCT highCT DB S O F L demandWith countedFrom countedBy groupsInRange mergedTasks hasGroup
 overtakes =
     record {
       harder = related-by at-most equal any refl refl refl;

@@ -8,7 +8,7 @@ use native.Mathlib.Omega.{arith}
 use borrow.Author.Tests.{le-leb}
 use lib.Dec.{leb}
 use Rattle.basics.specs.Choice.{pick, only}
-use Rattle.basics.specs.Over.{sumTo}
+use Rattle.basics.specs.Over.{sumTo, allTo}
 use Rattle.basics.proofs.ChoiceLaws.{only-when}
 use Rattle.basics.proofs.SumLaws.{sum-eq}
 use Rattle.table.specs.declared.Level.{Level}
@@ -17,6 +17,8 @@ use Rattle.theory.specs.Work.{workload, ceilDiv}
 use Rattle.theory.specs.View.{View, level, resource, isAbove, uses}
 use Rattle.theory.specs.Demand.{sharedCT, otherCT, allCT, highCT, DB, loadOf, S, O, F, L, demandWith, demandOf, unitsDivided, unitsRead}
 use Rattle.theory.proofs.WorkLaws.{workload-none}
+use Rattle.table.specs.Rules.{hasGroup}
+use Rattle.theory.specs.Merge.{mergedTasks}
 use Rattle.promises.specs.Reads.{Above, LongForm, Reads, higher, processors, tasks, run, requests, periodAbove, deadlineAbove, shared, other, free, periodBelow, deadlineBelow, high, longest, AgreeOn, SameRead}
 use Rattle.promises.proofs.ReadsLaws.{Fitting, is-above, shared-read, high-read}
 
@@ -82,7 +84,7 @@ module _ (v w : View) (fits : Fitting v) (i : Level) (same : SameRead v w i) (t 
       ap₂ (λ x y. pick (leb (i .0) y) 0 (ceilDiv x y)) (omega (arith, O-eq m, F-eq m, L-eq m)) (same processors)
 
   pub demand-same : demandOf w i t ≡ demandOf v i t
-  unfolding demandWith AgreeOn
+  unfolding demandWith AgreeOn mergedTasks hasGroup allTo
   demand-same = omega (arith, same run, DB-eq, S-eq, quotient-eq (decLe (i .0) (v .cpus)))
 
 -- and as many units of each task count

@@ -32,6 +32,8 @@ use Rattle.writing.specs.Write.{writeFault, writeAnswer, written}
 use Rattle.card.specs.Archive.{archivingFault, archivingAnswer, archiving, readArchive}
 use Rattle.salvaging.specs.Fates.{codeOf, codesOf}
 use Rattle.salvaging.specs.Salvage.{blocksOf, salvageFault, salvageAnswer, listed, salvaged}
+use Rattle.table.specs.Answers.{orTable}
+use Rattle.theory.specs.Merge.{merged}
 use Rattle.analysis.specs.declared.Record.{Record}
 use Rattle.analysis.specs.Answers.{boundOf, analysisFault, analysed, FillsRow}
 use Rattle.waits.specs.Answers.{waitAnswer, allWaits}
@@ -50,6 +52,8 @@ use Rattle.rules.proofs.times_in_order.Reads as times-in-order
 use Rattle.rules.proofs.all_or_none.Reads as all-or-none
 use Rattle.rules.proofs.alpha.Reads as alpha
 use Rattle.rules.proofs.asked.Reads as asked
+use Rattle.rules.proofs.groups_in_range.Reads as groups-in-range
+use Rattle.rules.proofs.has_group.Reads as has-group
 use Rattle.rules.proofs.totals_fit.Reads as totals-fit
 use Rattle.rules.proofs.used_in_range.Reads as used-in-range
 use Rattle.field.proofs.ends_at.Reads as ends-at
@@ -78,6 +82,7 @@ use Rattle.salvaging.proofs.blocks_of.Reads as blocks-of
 use Rattle.salvaging.proofs.salvage.Reads as salvage
 use Rattle.rounds.proofs.outcome_of.Reads as outcome-of
 use Rattle.shares.proofs.shares_of.Reads as shares-of
+use Rattle.merging.proofs.merge.Reads as merge
 use Rattle.analysis.proofs.analyse as analyse
 use Rattle.analysis.proofs.analyse_all.Reads as analyse-all
 use Rattle.analysis.proofs.bound.Reads as bound
@@ -104,6 +109,7 @@ pub record Entries : Type 2 where
   pub salvage-answers : (κs : Lfts 3) → Answers (salvage.Learnt κs) (λ a. salvageAnswer (a .0 .now) (length (a .1 .0 .now)) (length (a .1 .1 .0 .now)))
   pub salvage-lists : (κs : Lfts 3) → Leaves (λ x. x .1 .0 .now) (salvage.Learnt κs) (λ a. listed (a .0 .now) (a .1 .0 .now) (length (a .1 .1 .0 .now)))
   pub salvage-leaves : (κs : Lfts 3) → Leaves (λ x. x .1 .1 .0 .now) (salvage.Learnt κs) (λ a. salvaged (a .0 .now) (length (a .1 .0 .now)) (a .1 .1 .0 .now))
+  pub merge : Answers (merge.Learnt tt) (λ a. orTable (tableFault (a .0)) (merged (a .0)))
   pub bound : Answers (bound.Learnt tt) (λ a. boundOf (a .0) (a .1 .0) (a .1 .1 .0))
   pub wait : Answers (wait.Learnt tt) (λ a. waitAnswer (a .0) (a .1 .0))
   pub wait-all : Answers (wait-all.Learnt tt) (λ a. allWaits (a .0))
@@ -125,6 +131,8 @@ pub record Determines : Type 0 where
   pub times-in-range : Determined (times-in-range.Learnt tt)
   pub times-in-order : Determined (times-in-order.Learnt tt)
   pub times : Determined (times.Learnt tt)
+  pub groups-in-range : Determined (groups-in-range.Learnt tt)
+  pub has-group : Determined (has-group.Learnt tt)
   pub all-or-none : Determined (all-or-none.Learnt tt)
   pub alpha : Determined (alpha.Learnt tt)
   pub used-in-range : Determined (used-in-range.Learnt tt)
@@ -155,6 +163,7 @@ pub record Determines : Type 0 where
   pub code : Determined (code.Learnt tt)
   pub blocks-of : Determined (blocks-of.Learnt tt)
   pub salvage : (κs : Lfts 3) → DeterminedWith {H = List ℕ × List ℕ} (λ x. (x .1 .0 .now, x .1 .1 .0 .now)) (salvage.Learnt κs)
+  pub merge : Determined (merge.Learnt tt)
   pub bound : Determined (bound.Learnt tt)
   pub outcome-of : Determined (outcome-of.Learnt tt)
   pub shares-of : Determined (shares-of.Learnt tt)

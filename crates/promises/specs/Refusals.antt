@@ -13,6 +13,10 @@ use Rattle.table.specs.declared.Refusal.{Refusal}
 use Rattle.table.specs.declared.Written.{Written}
 use Rattle.table.specs.declared.Written.the-variants.{NotWritten}
 use Rattle.table.specs.Faults.{numberOf, Told, Refuses}
+use Rattle.table.specs.Limits.{maxResources}
+use Rattle.table.specs.At.{groupAt, NoGroup}
+use Rattle.table.specs.Rules.{tableFault}
+use Rattle.table.specs.Answers.{orTable}
 use Rattle.table.specs.Accepted.{Accepted}
 use Rattle.table.specs.Refusals.{InRange, CallsFor, RefusedAsCalled}
 use Rattle.meaning.specs.Refusals.{RefusedAsCalled as ListingRefusedAsCalled}
@@ -22,6 +26,7 @@ use Rattle.card.specs.Archive.{archivingAnswer}
 use Rattle.release.specs.Refusals.{RefusedAsCalled as CardRefusedAsCalled}
 use Rattle.salvaging.specs.Salvage.{salvageAnswer}
 use Rattle.recovery.specs.Refusals.{SalvagedAsCalled, CallsFor as SpoiledCallsFor}
+use Rattle.theory.specs.Merge.{merged}
 use Rattle.analysis.specs.declared.Answer.{Answer}
 use Rattle.analysis.specs.declared.Answer.the-variants.{Unknown}
 use Rattle.analysis.specs.Answers.{boundOf, analysisFault}
@@ -52,11 +57,18 @@ pub data RowCallsFor (t : Table) (allowance room : ℕ) : ℕ → ℕ → Type 0
   -- "the row has fewer than n records"
   too-short : Accepted t → 1 ≤ allowance → room < t .n → RowCallsFor t allowance room 11 0
 
--- of an output with room for so many bytes, where so many are to be written
+-- of an output with room for so many bytes, where so many are to be written, of a listing
 pub data OutputCallsFor (t : Table) (needed room : ℕ) : ℕ → ℕ → Type 0 where
   own : {number place : ℕ} → CallsFor t number place → OutputCallsFor t needed room number place
-  -- "the output is shorter than the text needs"; "a writer whose output is shorter than 512 × n bytes gives 11 last"
+  -- "the output is shorter than the text needs"
   too-short : Accepted t → room < needed → OutputCallsFor t needed room 11 0
+
+-- the same of an archive, before whose 11 "20, writing a table that has a group as a card archive of version 1" comes: some resource has one, used or not
+pub data ArchivingCallsFor (t : Table) (room : ℕ) : ℕ → ℕ → Type 0 where
+  own : {number place : ℕ} → CallsFor t number place → ArchivingCallsFor t room number place
+  has-group : Accepted t → (k : ℕ) → k < maxResources → 1 ≤ groupAt t k → ArchivingCallsFor t room 20 0
+  -- "a writer whose output is shorter than 512 × n bytes gives 11 last"
+  too-short : Accepted t → NoGroup t → room < blockSize * t .n → ArchivingCallsFor t room 11 0
 
 -- ---- refused exactly if it is called for: the answer is a refusal with this number, at this place
 
@@ -82,6 +94,8 @@ pub record FirstDecides : Type 0 where
   pub salvage : SalvagedAsCalled
   pub salvage-answer : (s : List ℕ) (entries room number place : ℕ)
       → NotWrote (salvageAnswer s entries room) number place exactly-if SpoiledCallsFor s entries room number place
+  -- of what the analysis reads nothing but the table's own
+  pub merge : (t : Table) (number place : ℕ) → Refuses (orTable (tableFault t) (merged t) .answer) number place exactly-if CallsFor t number place
   -- after the table's own: of a task, of its wait, of a row, and of an output, be it for a listing or for an archive
   pub bound : (t : Table) (i : Level) (allowance number place : ℕ)
       → NotKnown (boundOf t i allowance) number place exactly-if BoundCallsFor t i allowance number place
@@ -93,4 +107,4 @@ pub record FirstDecides : Type 0 where
   pub output : (t : Table) (room number place : ℕ)
       → NotWrote (writeAnswer t room) number place exactly-if OutputCallsFor t (length (textOf t)) room number place
   pub archiving : (t : Table) (room number place : ℕ)
-      → NotWrote (archivingAnswer t room) number place exactly-if OutputCallsFor t (blockSize * t .n) room number place
+      → NotWrote (archivingAnswer t room) number place exactly-if ArchivingCallsFor t room number place

@@ -4,7 +4,7 @@ use mathlib.Core.Path.{_≡_, refl}
 use native.Mathlib.Omega.{arith}
 use Rattle.basics.specs.Over.{sumTo, maxTo, allTo, firstTo}
 use Rattle.table.specs.Faults.{firstFault}
-use Rattle.table.specs.Rules.{timesInRange, timesInOrder, timesFault, isUnused, usedInRange, pairInRange, totalsFit, pairFault, pairsFault, alphaFault, taskFault, lastAlpha, tasksFault, tableFault}
+use Rattle.table.specs.Rules.{timesInRange, timesInOrder, timesFault, isUnused, usedInRange, pairInRange, totalsFit, pairFault, pairsFault, alphaFault, taskFault, lastAlpha, tasksFault, tableFault, groupsInRange}
 use Rattle.theory.specs.Work.{uncapped, workload, jobs, ceilDiv}
 use Rattle.theory.specs.View.{View, level, ceiling}
 use Rattle.theory.specs.Demand.{sharedCT, otherCT, allCT, highCT, DB, S, O, F, L, demandWith, demandOf}
@@ -25,7 +25,7 @@ unfolding jobsOf runOf onward progress
 unfinished = refl
 
 pub miss-holds : BesideMiss
-unfolding missTable sumTo maxTo allTo firstTo firstFault timesInRange timesInOrder timesFault isUnused usedInRange pairInRange totalsFit pairFault pairsFault alphaFault taskFault lastAlpha tasksFault tableFault uncapped workload jobs ceilDiv ceiling sharedCT otherCT allCT highCT DB S O F L demandWith onward progress priority gotAfter jobsOf runOf factTest generatedRules
+unfolding missTable sumTo maxTo allTo firstTo firstFault timesInRange timesInOrder timesFault isUnused usedInRange pairInRange totalsFit pairFault pairsFault alphaFault taskFault lastAlpha tasksFault tableFault groupsInRange uncapped workload jobs ceilDiv ceiling sharedCT otherCT allCT highCT DB S O F L demandWith onward progress priority gotAfter jobsOf runOf factTest generatedRules
 miss-holds =
     record {
       accepted = refl;

@@ -13,7 +13,7 @@ use Rattle.basics.proofs.AllLaws.{all-at}
 use Rattle.basics.proofs.SumLaws.{sum-eq}
 use Rattle.table.specs.declared.Checked.the-variants.{Fine}
 use Rattle.table.specs.Faults.{firstFault}
-use Rattle.table.specs.Rules.{timesInRange, timesInOrder, timesFault, isUnused, usedInRange, pairInRange, totalsFit, pairFault, pairsFault, alphaFault, taskFault, lastAlpha, tasksFault, tableFault}
+use Rattle.table.specs.Rules.{timesInRange, timesInOrder, timesFault, isUnused, usedInRange, pairInRange, totalsFit, pairFault, pairsFault, alphaFault, taskFault, lastAlpha, tasksFault, tableFault, groupsInRange}
 use Rattle.theory.specs.Work.{uncapped, workload, jobs, ceilDiv}
 use Rattle.theory.specs.View.{View, level, ceiling}
 use Rattle.theory.specs.Demand.{sharedCT, otherCT, allCT, highCT, DB, S, O, F, L, demandWith, demandOf}
@@ -33,7 +33,7 @@ abbrev shownView : View
 shownView = viewOf shownTable
 
 accepted : tableFault shownTable ≡ Fine
-unfolding shownTable sumTo firstFault timesInRange timesInOrder timesFault isUnused usedInRange pairInRange totalsFit pairFault pairsFault alphaFault taskFault lastAlpha tasksFault tableFault
+unfolding shownTable sumTo firstFault timesInRange timesInOrder timesFault isUnused usedInRange pairInRange totalsFit pairFault pairsFault alphaFault taskFault lastAlpha tasksFault tableFault groupsInRange allTo
 accepted = refl
 
 bounded-test : allTo 4 (λ i. leastTest (demandOf shownView (level i)) (shownView .D (level i)) (getD shownBounds i 0)) ≡ true

@@ -13,7 +13,7 @@ use lib.ListN.{getD}
 use Rattle.basics.specs.Choice.{pick, only}
 use Rattle.basics.specs.Over.{sumTo, maxTo, firstTo, rowTo}
 use Rattle.basics.proofs.ChoiceLaws.{only-below}
-use Rattle.basics.proofs.SumLaws.{sum-eq, sum-bound, sum-single, sum-slots}
+use Rattle.basics.proofs.SumLaws.{sum-eq, sum-bound, sum-some, sum-single, sum-slots}
 use Rattle.basics.proofs.MaxLaws.{max-eq, max-bound, max-single}
 use Rattle.basics.proofs.FirstIndexLaws.{First, first-is, first-by}
 use Rattle.basics.proofs.OnceLaws.{first-below}
@@ -33,6 +33,10 @@ use Rattle.table.proofs.RuleLaws.{pair-bounds}
 use Rattle.theory.specs.Merge.{slotOf, partAt, mergedPair, mergedTask, groupedTasks, mergedTasks, merged}
 use Rattle.theory.specs.Groups.{memberOf, groupPair, MergedPairs, MergedAgrees, maxRequests, TaskInBounds, InBounds}
 
+-- a pair by its figures
+pair-is : {a b : Pair} → a .requests ≡ b .requests → a .longest ≡ b .longest → a .total ≡ b .total → a ≡ b
+pair-is p q r = λ j. record { requests = p j; longest = q j; total = r j }
+
 -- ---- where the figures of a resource stand
 
 module _ (g : List ℕ) where
@@ -43,7 +47,7 @@ module _ (g : List ℕ) where
   unfolding slotOf
   slot-alone j e = rw (eq-eqb (G j) 0 e)
 
-  slot-group : (j : ℕ) → (G j ≡ 0 → ⊥) → First maxResources (λ k. eqb (G k) (G j)) (slotOf g j)
+  pub slot-group : (j : ℕ) → (G j ≡ 0 → ⊥) → First maxResources (λ k. eqb (G k) (G j)) (slotOf g j)
   unfolding slotOf
   slot-group j d = rw (ne-eqb (G j) 0 d) (first-is maxResources (λ k. eqb (G k) (G j)))
 
@@ -100,9 +104,6 @@ module _ (g : List ℕ) where
 
   -- ---- the pair at a slot
 
-  pair-is : {a b : Pair} → a .requests ≡ b .requests → a .longest ≡ b .longest → a .total ≡ b .total → a ≡ b
-  pair-is p q r = λ j. record { requests = p j; longest = q j; total = r j }
-
   -- by a test that says which resources have their figures there
   by-test : (x : Task) (k : ℕ) (p : ℕ → Bool) → ((j : ℕ) → j < maxResources → eqb (slotOf g j) k ≡ p j)
       → mergedPair g x k
@@ -138,9 +139,28 @@ module _ (g : List ℕ) where
       by-test x k (λ j. false) (λ j h. slot-other i j k h some l e)
       ∙ pair-is (none-sum (λ j. pairOf x j .requests)) (none-largest (λ j. pairOf x j .longest)) (none-sum (totalOf x))
 
+  -- at a slot a task has units where it has requests, and only there, if that is so of each of its pairs
+  pub used-merged : (x : Task) (k : ℕ) → ((j : ℕ) → j < maxResources → ltb 0 (pairOf x j .requests) ≡ ltb 0 (totalOf x j))
+      → ltb 0 (mergedPair g x k .requests) ≡ ltb 0 (mergedPair g x k .total)
+  unfolding mergedPair
+  used-merged x k each = sum-some maxResources (partAt g k (λ j. pairOf x j .requests)) (partAt g k (totalOf x)) (λ j h. only-test (eqb (slotOf g j) k) _ _ (each j h))
+    where
+      only-test : (b : Bool) (x y : ℕ) → ltb 0 x ≡ ltb 0 y → ltb 0 (only b x) ≡ ltb 0 (only b y)
+      only-test true x y e = e
+      only-test false x y e = refl
+
   -- the pairs of all slots together ask for what the resources ask for
-  sum-merged : (f : ℕ → ℕ) → sumTo maxResources (λ k. sumTo maxResources (partAt g k f)) ≡ sumTo maxResources f
+  pub sum-merged : (f : ℕ → ℕ) → sumTo maxResources (λ k. sumTo maxResources (partAt g k f)) ≡ sumTo maxResources f
   sum-merged f = sum-slots maxResources maxResources (slotOf g) f slot-below
+
+-- where the figures of each resource stand at one slot in both, pairs that are the same are merged alike
+pub pair-alike : (g h : List ℕ) (x y : Task) (k : ℕ) → ((j : ℕ) → j < maxResources → slotOf g j ≡ slotOf h j) → ((j : ℕ) → j < maxResources → pairOf x j ≡ pairOf y j)
+    → mergedPair g x k ≡ mergedPair h y k
+unfolding mergedPair
+pair-alike g h x y k slots same =
+    pair-is (sum-eq maxResources _ _ (λ j l i. only (eqb (slots j l i) k) (same j l i .requests)))
+    (max-eq maxResources _ _ (λ j l i. only (eqb (slots j l i) k) (same j l i .longest)))
+    (sum-eq maxResources _ _ (λ j l i. only (eqb (slots j l i) k) (same j l i .total)))
 
 -- ---- a table: its merged pairs, whether it has groups or not
 
@@ -158,13 +178,13 @@ module _ (t : Table) where
     pub alpha : y .alpha ≡ x .alpha
     pub pairs : (k : ℕ) → k < maxResources → pairOf y k ≡ mergedPair (t .groups) x k
 
-  pub merged-task : (i : ℕ) → i < t .n → t .n ≤ maxTasks → MergedTask (taskAt t i) (taskAt (merged t) i)
+  pub merged-task : (i : ℕ) → i < t .n → i < maxTasks → MergedTask (taskAt t i) (taskAt (merged t) i)
   unfolding mergedTasks groupedTasks mergedTask
   merged-task i h l = go (hasGroup (t .groups)) refl
     where
       go : (b : Bool) → hasGroup (t .groups) ≡ b → MergedTask (taskAt t i) (taskAt (merged t) i)
       go true e =
-          rw (e, row-at maxTasks i (λ i. pick (ltb i (t .n)) (mergedTask (t .groups) (taskAt t i)) emptyTask) noTask (omega arith), lt-ltb i (t .n) h)
+          rw (e, row-at maxTasks i (λ i. pick (ltb i (t .n)) (mergedTask (t .groups) (taskAt t i)) emptyTask) noTask l, lt-ltb i (t .n) h)
           (record { period = refl; run = refl; deadline = refl; alpha = refl; pairs = λ k q. row-at maxResources k (mergedPair (t .groups) (taskAt t i)) unusedPair q })
       go false e =
           rw e
@@ -176,14 +196,14 @@ module _ (t : Table) where
             pairs = λ k q. sym (pair-alone (t .groups) (taskAt t i) k q (no-group-is t .0 e k q));
           })
 
-  pub merged-pair : (i k : ℕ) → i < t .n → t .n ≤ maxTasks → k < maxResources → pairAt (merged t) i k ≡ mergedPair (t .groups) (taskAt t i) k
+  pub merged-pair : (i k : ℕ) → i < t .n → i < maxTasks → k < maxResources → pairAt (merged t) i k ≡ mergedPair (t .groups) (taskAt t i) k
   merged-pair i k h l q = merged-task i h l .pairs k q
 
 -- ---- without slots
 
 pub merged-agrees : MergedAgrees
 merged-agrees t i e h =
-    let most = fine-accepted t e .tasks-most in
+    let most : i < maxTasks = omega (arith, fine-accepted t e .tasks-most) in
     record {
       first = λ k q some before. merged-pair t i k h most q ∙ by-test (t .groups) (taskAt t i) k (λ j. eqb (groupAt t j) (groupAt t k)) (λ j l. slot-first (t .groups) j k l q some before);
       other = λ j k q some l same. merged-pair t i k h most q ∙ pair-other (t .groups) (taskAt t i) j k some l same;
@@ -225,5 +245,5 @@ merged-bounds t e =
       tasks-most = a .tasks-most;
       cpus-least = a .cpus-least;
       cpus-most = a .cpus-most;
-      task = λ i h. bounds-task t (taskAt t i) (taskAt (merged t) i) (merged-task t i h (a .tasks-most)) (a .task i h);
+      task = λ i h. bounds-task t (taskAt t i) (taskAt (merged t) i) (merged-task t i h (omega (arith, a .tasks-most))) (a .task i h);
     }

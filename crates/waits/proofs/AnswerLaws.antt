@@ -1,6 +1,6 @@
 -- Of a table whose first task has no alpha there are no waits, be it accepted or not; and the waits by the merged pairs of an accepted one are its own.
 -- Assumes nothing.
-use Prim.Native.Nat.{ℕ}
+use Prim.Native.Nat.{ℕ, _<_}
 use mathlib.Core.Path.{_≡_, refl, ap, _∙_}
 use mathlib.Core.Bool.{Bool, true, false}
 use borrow.Author.Tests.{ltb-true}
@@ -13,7 +13,6 @@ use Rattle.table.specs.declared.Checked.the-variants.{Fine, Refused}
 use Rattle.table.specs.Limits.{maxTasks}
 use Rattle.table.specs.At.{alphaAt}
 use Rattle.table.specs.Rules.{hasAlpha, tableFault}
-use Rattle.table.proofs.Acceptance.{fine-accepted}
 use Rattle.theory.specs.View.{level}
 use Rattle.theory.specs.Tables.{mergedView}
 use Rattle.theory.specs.Merge.{merged}
@@ -30,10 +29,10 @@ none-all t e = go (tableFault t)
     go Fine = rw e (refl, refl)
     go (Refused r) = (refl, refl)
 
-pub waits-merged : (t : Table) → tableFault t ≡ Fine → waitsBy (merged t) ≡ waitsOf t
-waits-merged t e = row-eq maxTasks (slotWaitBy (merged t)) (slotWait t) (λ i _. go i (ltb i (t .n)) refl)
+pub waits-merged : (t : Table) → waitsBy (merged t) ≡ waitsOf t
+waits-merged t = row-eq maxTasks (slotWaitBy (merged t)) (slotWait t) (λ i l. go i l (ltb i (t .n)) refl)
   where
-    go : (i : ℕ) (b : Bool) → ltb i (t .n) ≡ b
+    go : (i : ℕ) → i < maxTasks → (b : Bool) → ltb i (t .n) ≡ b
         → pick b (waitOf (mergedView t) (alphaAt (merged t) i) (level i)) 0 ≡ pick b (waitOf (mergedView t) (alphaAt t i) (level i)) 0
-    go i true h = ap (λ (A : ℕ). waitOf (mergedView t) A (level i)) (merged-task t i (ltb-true i (t .n) h) (fine-accepted t e .tasks-most) .alpha)
-    go i false h = refl
+    go i l true h = ap (λ (A : ℕ). waitOf (mergedView t) A (level i)) (merged-task t i (ltb-true i (t .n) h) l .alpha)
+    go i l false h = refl

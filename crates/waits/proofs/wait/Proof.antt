@@ -77,7 +77,7 @@ returns-3 c =
     let n : suc i ≡ a .task .0 = omega (arith, s .least) in
     let l : level i ≡ a .task = λ j. record { 0 = n j } in
     let x : getD (w .waits-of .result) i 0 ≡ waitIn (a .t1) (a .task) =
-    ap (λ (row : List ℕ). getD row i 0) (w .waits-of .ensures ∙ ap waitsBy (read-merged _ (e .before .before .before .before .merge .ensures) (s .fine)) ∙ waits-merged (a .t1) (s .fine)) ∙ row-at maxTasks i (slotWait (a .t1)) 0 (s .most) ∙ rw (lt-ltb i (a .t1 .n) (s .slot)) (ap (waitIn (a .t1)) l) in
+    ap (λ (row : List ℕ). getD row i 0) (w .waits-of .ensures ∙ ap waitsBy (read-merged _ (e .before .before .before .before .merge .ensures) (s .fine)) ∙ waits-merged (a .t1)) ∙ row-at maxTasks i (slotWait (a .t1)) 0 (s .most) ∙ rw (lt-ltb i (a .t1 .n) (s .slot)) (ap (waitIn (a .t1)) l) in
     rw (← checks (e .before .before), e .enum-told .given .1, lt-ltb 0 (alphaAt (a .t1) 0) (omega arith)) (ap For x)
 
 pub wait-spec : {M : Type 1} → statement M

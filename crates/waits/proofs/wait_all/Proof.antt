@@ -38,7 +38,7 @@ unfolding allWaits
 returns-3 c =
     let e = c .before .before .before .before .before in
     let k = e .before .before in
-    let w = c .waits-of .ensures ∙ ap waitsBy (read-merged _ (k .merge .ensures) (fine e)) ∙ waits-merged (k .before .args .t1) (fine e) in
+    let w = c .waits-of .ensures ∙ ap waitsBy (read-merged _ (k .merge .ensures) (fine e)) ∙ waits-merged (k .before .args .t1) in
     rw (w, ← said k, e .enum-told .given .1, lt-ltb 0 (alphaAt (k .before .args .t1) 0) (omega arith))
 
 pub wait-all-spec : {M : Type 1} → statement M
