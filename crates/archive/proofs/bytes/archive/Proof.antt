@@ -1,16 +1,16 @@
--- `archive::bytes::archive` meets its contract: the reading decides, and there is room for what is written. Assumes nothing.
+-- `archive::bytes::archive` meets its contract: the reading decides, then 20, and there is room for what is written. Assumes nothing.
 use mathlib.Core.Path.{refl, sym, ap, _∙_}
 use lib.ListN.{length}
 use Rattle.table.specs.declared.Reading.{Reading}
 use Rattle.card.specs.Archive.{archivingAnswer, archiving}
-use Rattle.archive.specs.Archiving.{fromListing, withArchive}
+use Rattle.archive.specs.Archiving.{fromListing, fromListingFault, withArchive}
 use Rattle.archive.proofs.Fits.{archive-room}
 use borrow.Author.Needs.{needs}
 use Rattle.archive.proofs.bytes.archive.Statement.{statement}
 use Rattle.archive.proofs.bytes.archive.Tie as tie
 
 returns : tie.Need-returns
-unfolding fromListing withArchive
+unfolding fromListing fromListingFault withArchive
 returns c =
     let g = c .before in
     let r = g .before .before in
@@ -24,7 +24,7 @@ returns-2 c =
     let r = g .before .before in
     let s = r .before .before .before in
     let e = sym (ap (λ (x : Reading). x .answer) (r .read .ensures)) ∙ g .enum-told .given .1 in
-    rw e (rw (r .read .ensures, archive-room (s .args .listing .now) e (length (s .args .out .now)) (s .pre)) at (w .write .ensures))
+    rw (r .read .ensures, archive-room (s .args .listing .now) e (length (s .args .out .now)) (s .pre)) at (w .write .ensures)
 
 pub archive-spec : {M : Type 1} → statement M
 archive-spec =
