@@ -20,10 +20,14 @@ use theory::Verdict;
 use waits::Waiting;
 use waits::Waits;
 
-// The words of a task, and of a request that holds a table: an entry point, its argument, m, n in two words, 32 tasks, and an allowance of rounds.
+// The words of a task, and of a request that holds a table: an entry point, its argument, m, n in two words, 16 groups, 32 tasks, and an allowance of rounds.
 const TASK: usize = 4 + 3 * Table::MAX_RESOURCES;
 
-const ALLOWANCE: usize = 5 + Table::MAX_TASKS * TASK;
+const GROUPS: usize = 5;
+
+const TASKS: usize = GROUPS + Table::MAX_RESOURCES;
+
+const ALLOWANCE: usize = TASKS + Table::MAX_TASKS * TASK;
 
 const WORDS: usize = ALLOWANCE + 1;
 
@@ -99,14 +103,26 @@ fn task_at(s: &[u8], at: usize) -> Task
     }
 }
 
+// The groups of resources 1 to 16.
+fn groups_of(s: &[u8]) -> [u32; Table::MAX_RESOURCES] {
+    let mut groups = [0u32; Table::MAX_RESOURCES];
+    let mut k: usize = 0;
+    while k < Table::MAX_RESOURCES {
+        groups[k] = word(s, GROUPS + k);
+        k += 1;
+    }
+    groups
+}
+
 // The table that begins at the third word.
 fn table_of(s: &[u8]) -> Table {
     let mut t = Table::empty();
     t.cpus = word(s, 2);
     t.n = long_at(s, 3) as usize;
+    t.groups = groups_of(s);
     let mut i: usize = 0;
     while i < Table::MAX_TASKS {
-        t.tasks[i] = task_at(s, 5 + i * TASK);
+        t.tasks[i] = task_at(s, TASKS + i * TASK);
         i += 1;
     }
     t
@@ -271,6 +287,55 @@ fn wait_all(t: Table, argument: u32) {
         return;
     }
     say_waits(waits::wait_all(t));
+}
+
+// A number, after a space.
+fn say_next(n: u32) {
+    say(b" ");
+    say_number(n);
+}
+
+fn say_pair(p: Pair) {
+    say_next(p.requests);
+    say_next(p.longest);
+    say_next(p.total);
+}
+
+// T, C, D, alpha and the pairs of a task, on a line.
+fn say_task(x: Task) {
+    say_number(x.period);
+    say_next(x.run);
+    say_next(x.deadline);
+    say_next(x.alpha);
+    let mut k: usize = 0;
+    while k < Table::MAX_RESOURCES {
+        say_pair(x.pairs[k]);
+        k += 1;
+    }
+    say(b"\n");
+}
+
+fn say_tasks(t: Table) {
+    let n = t.n;
+    let mut i: usize = 0;
+    while i < Table::MAX_TASKS {
+        if i < n {
+            say_task(t.tasks[i]);
+        }
+        i += 1;
+    }
+}
+
+// Entry point 13: `merge`, which takes no argument. The table of a refused one has no task.
+fn merge(t: Table, argument: u32) {
+    if 0 < argument {
+        say(b"bad argument\n");
+        return;
+    }
+    let r = merging::merge(t);
+    let answer = r.answer;
+    say_checked(answer);
+    say_tasks(r.table);
 }
 
 fn say_wrote(k: usize) {
@@ -443,6 +508,7 @@ fn main() {
         10 => wait(t, argument),
         11 => wait_all(t, argument),
         12 => put_count(long_at(&space, 2), argument),
+        13 => merge(t, argument),
         _ => say(b"bad request\n"),
     }
 }
