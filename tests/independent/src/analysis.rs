@@ -1,7 +1,9 @@
-//! The bound of each task and the rounds that it takes, written from the paper's section 'The analysis' and requests 3/12 and 6/12.
+//! The bound of each task and the rounds that it takes, written from the paper's section 'The analysis' and requests 3/12, 6/12 and 9/12. What the paper says
+//! of a resource is read of a column of the merged pairs.
 
 use crate::listing;
-use crate::table::{Table, Task, LOCKS};
+use crate::merge::{Column, Merged};
+use crate::table::{Table, Task};
 
 /// Up to this deadline every length is tried, and the climb is held to what that finds.
 const TRIED: u64 = 3_000;
@@ -100,34 +102,37 @@ pub struct Terms {
     pub l: u64,
 }
 
-fn uses(task: &Task, k: usize) -> bool {
-    task.locks[k].n > 0
+fn uses(column: &Column, i: usize) -> bool {
+    column[i].n > 0
 }
 
-/// The CT of those of a task's resources that are wanted.
-fn total(task: &Task, wanted: impl Fn(usize) -> bool) -> u64 {
-    (0..LOCKS).filter(|&k| wanted(k)).map(|k| task.locks[k].ct).sum()
+/// The ceiling, as a place from 0 on: some task uses the resource.
+fn ceiling(column: &Column) -> usize {
+    (0..column.len()).find(|&i| uses(column, i)).expect("a column that is used")
 }
 
 /// The terms of the task at `i` (from 0) of a checked table by some workload, as the paper lists them: nothing is kept from one length to the
 /// next.
-pub fn terms(table: &Table, i: usize, t: u64, workload: impl Fn(&Task, u64, u64) -> u64) -> Terms {
-    let tasks = table.used();
-    let (me, above, below) = (&tasks[i], &tasks[..i], &tasks[i + 1..]);
-    let ceiling: [Option<usize>; LOCKS] = std::array::from_fn(|k| tasks.iter().position(|task| uses(task, k)));
-    let longest_below = |k: usize| below.iter().map(|task| task.locks[k].c).max().unwrap_or(0);
+pub fn terms(merged: &Merged, i: usize, t: u64, workload: impl Fn(&Task, u64, u64) -> u64) -> Terms {
+    let Merged { columns, .. } = merged;
+    let tasks = merged.tasks();
+    let (above, below) = (0..i, i + 1..tasks.len());
+    let longest_below = |column: &Column| column[below.clone()].iter().map(|lock| lock.c).max().unwrap_or(0);
+    // the CT of those of a task's resources that are wanted
+    let total = |l: usize, wanted: &dyn Fn(&Column) -> bool| columns.iter().filter(|column| wanted(column)).map(|column| column[l].ct).sum();
+    let load = |l: usize, x: u64| workload(&tasks[l], t, x);
     Terms {
-        db: (0..LOCKS).filter(|&k| uses(me, k)).map(|k| me.locks[k].n * longest_below(k)).sum(),
-        s: above.iter().map(|l| workload(l, t, total(l, |k| uses(me, k)))).sum(),
-        o: above.iter().map(|l| workload(l, t, total(l, |k| !uses(me, k)))).sum(),
-        f: above.iter().map(|l| workload(l, t, l.outside_locks())).sum(),
-        l: below.iter().map(|l| workload(l, t, total(l, |k| ceiling[k].is_some_and(|j| j < i)))).sum(),
+        db: merged.used_by(i).map(|column| column[i].n * longest_below(column)).sum(),
+        s: above.clone().map(|l| load(l, total(l, &|column| uses(column, i)))).sum(),
+        o: above.clone().map(|l| load(l, total(l, &|column| !uses(column, i)))).sum(),
+        f: above.map(|l| load(l, tasks[l].outside_locks())).sum(),
+        l: below.clone().map(|l| load(l, total(l, &|column| ceiling(column) < i))).sum(),
     }
 }
 
 impl Terms {
     /// The demand of the task at `i` (from 0) that is made of them.
-    pub fn demand(self, table: &Table, i: usize) -> u64 {
+    pub fn demand(self, Merged { table, .. }: &Merged, i: usize) -> u64 {
         let Terms { db, s, o, f, l } = self;
         let number = i as u64 + 1;
         let quotient = if number <= table.m { 0 } else { (o + f + l).div_ceil(table.m) };
@@ -136,8 +141,8 @@ impl Terms {
 }
 
 /// The demand of the task at `i` (from 0) of a checked table, made of the paper's terms.
-pub fn demand(table: &Table, i: usize, t: u64, by: By) -> u64 {
-    terms(table, i, t, by.workload()).demand(table, i)
+pub fn demand(merged: &Merged, i: usize, t: u64, by: By) -> u64 {
+    terms(merged, i, t, by.workload()).demand(merged, i)
 }
 
 /// One task's workload that counts: its period, its units, and D less the units.
@@ -169,11 +174,10 @@ pub struct Reduced {
 }
 
 impl Reduced {
-    pub fn new(table: &Table, i: usize, by: By) -> Reduced {
-        let tasks = table.used();
-        let me = &tasks[i];
-        let mut used_above = [false; LOCKS];
-        let mut worst_below = [0; LOCKS];
+    pub fn new(merged: &Merged, i: usize, by: By) -> Reduced {
+        let Merged { table, columns } = merged;
+        let tasks = merged.tasks();
+        let used_above: Vec<bool> = columns.iter().map(|column| column[..i].iter().any(|lock| lock.n > 0)).collect();
         let (mut whole, mut divided) = (Vec::new(), Vec::new());
         let push = |list: &mut Vec<Part>, task: &Task, units: u64| {
             if units > 0 {
@@ -181,14 +185,13 @@ impl Reduced {
             }
         };
         let long = i as u64 + 1 > table.m;
-        for task in &tasks[..i] {
+        for (l, task) in tasks[..i].iter().enumerate() {
             let (mut shared, mut all) = (0, 0);
-            for k in 0..LOCKS {
-                all += task.locks[k].ct;
-                if me.locks[k].n > 0 {
-                    shared += task.locks[k].ct;
+            for column in columns {
+                all += column[l].ct;
+                if column[i].n > 0 {
+                    shared += column[l].ct;
                 }
-                used_above[k] |= task.locks[k].n > 0;
             }
             push(&mut whole, task, shared);
             if long {
@@ -196,20 +199,13 @@ impl Reduced {
                 push(&mut divided, task, task.c - all);
             }
         }
-        for task in &tasks[i + 1..] {
-            let mut high = 0;
-            for k in 0..LOCKS {
-                worst_below[k] = task.locks[k].c.max(worst_below[k]);
-                if used_above[k] {
-                    high += task.locks[k].ct;
-                }
-            }
-            if long {
-                push(&mut divided, task, high);
-            }
+        for (l, task) in tasks.iter().enumerate().skip(i + 1).filter(|_| long) {
+            let high = columns.iter().zip(&used_above).filter(|(_, used_above)| **used_above).map(|(column, _)| column[l].ct);
+            push(&mut divided, task, high.sum());
         }
-        let db: u64 = (0..LOCKS).map(|k| me.locks[k].n * worst_below[k]).sum();
-        Reduced { base: me.c + db, whole, divided, m: table.m, by }
+        let worst_below = |column: &Column| column[i + 1..].iter().fold(0, |worst, lock| lock.c.max(worst));
+        let db: u64 = columns.iter().map(|column| column[i].n * worst_below(column)).sum();
+        Reduced { base: tasks[i].c + db, whole, divided, m: table.m, by }
     }
 
     pub fn demand(&self, t: u64) -> u64 {
@@ -243,33 +239,34 @@ pub fn replaced(c: u64, d: u64, allowance: u64, demand: impl Fn(u64) -> u64) -> 
 }
 
 /// The same of the task at `i` (from 0) of a checked table.
-pub fn iterate(table: &Table, i: usize, by: By, allowance: u64) -> Found {
-    let reduced = Reduced::new(table, i, by);
-    replaced(table.tasks[i].c, table.tasks[i].d, allowance, |t| reduced.demand(t))
+pub fn iterate(merged: &Merged, i: usize, by: By, allowance: u64) -> Found {
+    let reduced = Reduced::new(merged, i, by);
+    let Task { c, d, .. } = merged.tasks()[i];
+    replaced(c, d, allowance, |t| reduced.demand(t))
 }
 
 /// The demand by the paper's terms. `Reduced` is held to it at this length: it has the shape of the proved program's shares, and might have
 /// its slips.
-fn agreed(table: &Table, i: usize, reduced: &Reduced, t: u64) -> u64 {
-    let f = demand(table, i, t, reduced.by);
-    assert_eq!(reduced.demand(t), f, "not the paper's demand: task {} at {t} of\n{}", i + 1, listing::write(table));
+fn agreed(merged: &Merged, i: usize, reduced: &Reduced, t: u64) -> u64 {
+    let f = demand(merged, i, t, reduced.by);
+    assert_eq!(reduced.demand(t), f, "not the paper's demand: task {} at {t} of\n{}", i + 1, listing::write(merged.table));
     f
 }
 
 /// The least length that covers its own demand, by trying each.
-fn tried(table: &Table, i: usize, by: By) -> Verdict {
-    let reduced = Reduced::new(table, i, by);
-    (1..=table.tasks[i].d).find(|&t| agreed(table, i, &reduced, t) <= t).map_or(Verdict::Misses, Verdict::Meets)
+fn tried(merged: &Merged, i: usize, by: By) -> Verdict {
+    let reduced = Reduced::new(merged, i, by);
+    (1..=merged.tasks()[i].d).find(|&t| agreed(merged, i, &reduced, t) <= t).map_or(Verdict::Misses, Verdict::Meets)
 }
 
 /// The same without trying each: no length below C covers its demand, and as demand never falls, none from a length up to the demand there
 /// does. So a miss too rests on the paper's terms, at every round: the ten million of the slow listing take about a second.
-fn climbed(table: &Table, i: usize, by: By) -> Found {
-    let task = &table.tasks[i];
-    let reduced = Reduced::new(table, i, by);
+fn climbed(merged: &Merged, i: usize, by: By) -> Found {
+    let task = &merged.tasks()[i];
+    let reduced = Reduced::new(merged, i, by);
     let (mut t, mut rounds) = (task.c, 0);
     while t <= task.d {
-        let f = agreed(table, i, &reduced, t);
+        let f = agreed(merged, i, &reduced, t);
         rounds += 1;
         if f <= t {
             return Found::meets(t, rounds);
@@ -280,37 +277,39 @@ fn climbed(table: &Table, i: usize, by: By) -> Found {
 }
 
 /// What is said of the task at `i` if its rounds are not limited.
-pub fn found(table: &Table, i: usize) -> Found {
-    found_by(table, i, By::Capped)
+pub fn found(merged: &Merged, i: usize) -> Found {
+    found_by(merged, i, By::Capped)
 }
 
 /// The same by one workload or the other, by the paper's terms. Where it can, it holds the climb to a search through every length; and always
 /// the iteration to the climb, and the rounds to the D - C + 1 lengths that there are.
-pub fn found_by(table: &Table, i: usize, by: By) -> Found {
-    let task = &table.tasks[i];
-    let at = || format!("task {} of\n{}", i + 1, listing::write(table));
-    let found = climbed(table, i, by);
+pub fn found_by(merged: &Merged, i: usize, by: By) -> Found {
+    let task = &merged.tasks()[i];
+    let at = || format!("task {} of\n{}", i + 1, listing::write(merged.table));
+    let found = climbed(merged, i, by);
     if task.d <= TRIED {
-        assert_eq!(found.verdict, tried(table, i, by), "the climb and the search differ: {}", at());
+        assert_eq!(found.verdict, tried(merged, i, by), "the climb and the search differ: {}", at());
     }
-    assert_eq!(iterate(table, i, by, UNLIMITED), found, "the iteration and the climb differ: {}", at());
+    assert_eq!(iterate(merged, i, by, UNLIMITED), found, "the iteration and the climb differ: {}", at());
     assert!(found.rounds <= task.d - task.c + 1, "more rounds than lengths: {}", at());
     found
 }
 
 /// What is said of each task if its rounds are not limited.
 pub fn all(table: &Table) -> Vec<Found> {
-    (0..table.n as usize).map(|i| found(table, i)).collect()
+    let merged = table.merged();
+    (0..table.n as usize).map(|i| found(&merged, i)).collect()
 }
 
 /// What is said of the task at `i` under an allowance. The iteration that stops there is held to what was found without one.
-pub fn allowed(table: &Table, i: usize, found: Found, allowance: u64) -> Found {
-    let stopped = iterate(table, i, By::Capped, allowance);
-    assert_eq!(stopped, found.under(allowance), "an allowance of {allowance} rounds: task {} of\n{}", i + 1, listing::write(table));
+pub fn allowed(merged: &Merged, i: usize, found: Found, allowance: u64) -> Found {
+    let stopped = iterate(merged, i, By::Capped, allowance);
+    assert_eq!(stopped, found.under(allowance), "an allowance of {allowance} rounds: task {} of\n{}", i + 1, listing::write(merged.table));
     stopped
 }
 
 /// The same of each task by the iteration alone, as the benchmark wants it.
 pub fn quick(table: &Table, allowance: u64) -> Vec<Found> {
-    (0..table.n as usize).map(|i| iterate(table, i, By::Capped, allowance)).collect()
+    let merged = table.merged();
+    (0..table.n as usize).map(|i| iterate(&merged, i, By::Capped, allowance)).collect()
 }

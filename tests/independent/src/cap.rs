@@ -1,6 +1,7 @@
 //! Request 3/12, by number: the laws of the new workload, and wrong programs, each with a listing that tells it apart.
 
 use crate::analysis::{demand, quick, replaced, terms, uncapped, workload, By, Found, Terms, Verdict, UNLIMITED};
+use crate::merge::Merged;
 use crate::random::Random;
 use crate::report::{self, REPORT};
 use crate::table::{Table, Task};
@@ -40,7 +41,7 @@ fn laws() {
 }
 
 /// What some program takes a task's demand at a length to be.
-type Demand = fn(&Table, usize, u64) -> u64;
+type Demand = fn(&Merged, usize, u64) -> u64;
 
 /// A wrong program, with a listing that tells it apart: the one line that it prints there in place of the right one.
 struct Wrong {
@@ -68,9 +69,10 @@ const WRONG: &[Wrong] = &[
 
 /// What is said of each task by some demand: the rounds by its iteration, and the verdict by every length too.
 fn by_demand(table: &Table, demand: Demand) -> Vec<Found> {
+    let merged = &table.merged();
     let found = |(i, task): (usize, &Task)| {
-        let found = replaced(task.c, task.d, UNLIMITED, |t| demand(table, i, t));
-        let tried = (1..=task.d).find(|&t| demand(table, i, t) <= t).map_or(Verdict::Misses, Verdict::Meets);
+        let found = replaced(task.c, task.d, UNLIMITED, |t| demand(merged, i, t));
+        let tried = (1..=task.d).find(|&t| demand(merged, i, t) <= t).map_or(Verdict::Misses, Verdict::Meets);
         assert_eq!(found.verdict, tried, "the iteration and the search differ: task {} of\n{}", i + 1, listing::write(table));
         found
     };
@@ -89,7 +91,8 @@ fn told_apart(wrong: &Wrong) {
 /// length climbs faster, so that the rounds of request 6/12 do tell.
 fn same_verdicts() {
     let case_a = listing::read(cases::CASE_A.as_bytes()).expect("an accepted listing");
-    assert_eq!([demand(&case_a, 2, 100, By::Capped), divided_only(&case_a, 2, 100)], [6_200, 6_600]);
+    let merged = case_a.merged();
+    assert_eq!([demand(&merged, 2, 100, By::Capped), divided_only(&merged, 2, 100)], [6_200, 6_600]);
     let verdicts = |all: Vec<Found>| all.iter().map(|found| found.verdict).collect::<Vec<_>>();
     let mut r = Random::new(5);
     let tables = (0..TABLES).map(|_| generate::long_among_short(&mut r));
@@ -98,68 +101,68 @@ fn same_verdicts() {
     }
 }
 
-fn left_out(table: &Table, i: usize, t: u64) -> u64 {
-    terms(table, i, t, uncapped).demand(table, i)
+fn left_out(merged: &Merged, i: usize, t: u64) -> u64 {
+    terms(merged, i, t, uncapped).demand(merged, i)
 }
 
-fn one_more(table: &Table, i: usize, t: u64) -> u64 {
-    terms(table, i, t, |task, t, x| uncapped(task, t, x).min(t + 1)).demand(table, i)
+fn one_more(merged: &Merged, i: usize, t: u64) -> u64 {
+    terms(merged, i, t, |task, t, x| uncapped(task, t, x).min(t + 1)).demand(merged, i)
 }
 
 /// Some terms by the one workload, and the others by the other.
-fn mixed(table: &Table, i: usize, t: u64, mix: impl Fn(Terms, Terms) -> Terms) -> u64 {
-    mix(terms(table, i, t, workload), terms(table, i, t, uncapped)).demand(table, i)
+fn mixed(merged: &Merged, i: usize, t: u64, mix: impl Fn(Terms, Terms) -> Terms) -> u64 {
+    mix(terms(merged, i, t, workload), terms(merged, i, t, uncapped)).demand(merged, i)
 }
 
 /// S, which counts whole, is capped; what is divided is not.
-fn whole_only(table: &Table, i: usize, t: u64) -> u64 {
-    mixed(table, i, t, |capped, all| Terms { s: capped.s, ..all })
+fn whole_only(merged: &Merged, i: usize, t: u64) -> u64 {
+    mixed(merged, i, t, |capped, all| Terms { s: capped.s, ..all })
 }
 
-fn divided_only(table: &Table, i: usize, t: u64) -> u64 {
-    mixed(table, i, t, |capped, all| Terms { s: all.s, ..capped })
+fn divided_only(merged: &Merged, i: usize, t: u64) -> u64 {
+    mixed(merged, i, t, |capped, all| Terms { s: all.s, ..capped })
 }
 
-fn not_o(table: &Table, i: usize, t: u64) -> u64 {
-    mixed(table, i, t, |capped, all| Terms { o: all.o, ..capped })
+fn not_o(merged: &Merged, i: usize, t: u64) -> u64 {
+    mixed(merged, i, t, |capped, all| Terms { o: all.o, ..capped })
 }
 
-fn not_f(table: &Table, i: usize, t: u64) -> u64 {
-    mixed(table, i, t, |capped, all| Terms { f: all.f, ..capped })
+fn not_f(merged: &Merged, i: usize, t: u64) -> u64 {
+    mixed(merged, i, t, |capped, all| Terms { f: all.f, ..capped })
 }
 
-fn not_l(table: &Table, i: usize, t: u64) -> u64 {
-    mixed(table, i, t, |capped, all| Terms { l: all.l, ..capped })
+fn not_l(merged: &Merged, i: usize, t: u64) -> u64 {
+    mixed(merged, i, t, |capped, all| Terms { l: all.l, ..capped })
 }
 
 /// Each letter at most t, and not each task's part of it.
-fn over_the_tasks(table: &Table, i: usize, t: u64) -> u64 {
-    let Terms { db, s, o, f, l } = terms(table, i, t, uncapped);
-    Terms { db, s: s.min(t), o: o.min(t), f: f.min(t), l: l.min(t) }.demand(table, i)
+fn over_the_tasks(merged: &Merged, i: usize, t: u64) -> u64 {
+    let Terms { db, s, o, f, l } = terms(merged, i, t, uncapped);
+    Terms { db, s: s.min(t), o: o.min(t), f: f.min(t), l: l.min(t) }.demand(merged, i)
 }
 
 /// What one task brings in by itself.
-fn of_one(table: &Table, i: usize, t: u64, one: &Task) -> Terms {
-    terms(table, i, t, |task, t, x| if std::ptr::eq(task, one) { workload(task, t, x) } else { 0 })
+fn of_one(merged: &Merged, i: usize, t: u64, one: &Task) -> Terms {
+    terms(merged, i, t, |task, t, x| if std::ptr::eq(task, one) { workload(task, t, x) } else { 0 })
 }
 
-fn o_and_f(table: &Table, i: usize, t: u64) -> u64 {
-    let each = table.used().iter().map(|one| of_one(table, i, t, one));
+fn o_and_f(merged: &Merged, i: usize, t: u64) -> u64 {
+    let each = merged.tasks().iter().map(|one| of_one(merged, i, t, one));
     let f = each.map(|Terms { o, f, .. }| (o + f).min(t)).sum();
-    Terms { o: 0, f, ..terms(table, i, t, workload) }.demand(table, i)
+    Terms { o: 0, f, ..terms(merged, i, t, workload) }.demand(merged, i)
 }
 
 /// What S leaves of t is all that O and F of the same task get.
-fn s_o_and_f(table: &Table, i: usize, t: u64) -> u64 {
-    let each = table.used().iter().map(|one| of_one(table, i, t, one));
+fn s_o_and_f(merged: &Merged, i: usize, t: u64) -> u64 {
+    let each = merged.tasks().iter().map(|one| of_one(merged, i, t, one));
     let f = each.map(|Terms { s, o, f, .. }| (o + f).min(t - s)).sum();
-    Terms { o: 0, f, ..terms(table, i, t, workload) }.demand(table, i)
+    Terms { o: 0, f, ..terms(merged, i, t, workload) }.demand(merged, i)
 }
 
 /// The quotient is at most t, and not what is divided.
-fn quotient(table: &Table, i: usize, t: u64) -> u64 {
-    let whole = Terms { o: 0, f: 0, l: 0, ..terms(table, i, t, workload) }.demand(table, i);
-    let all = terms(table, i, t, uncapped);
+fn quotient(merged: &Merged, i: usize, t: u64) -> u64 {
+    let whole = Terms { o: 0, f: 0, l: 0, ..terms(merged, i, t, workload) }.demand(merged, i);
+    let all = terms(merged, i, t, uncapped);
     let rest = all.o + all.f + all.l;
-    whole + if (i as u64) < table.m { 0 } else { rest.div_ceil(table.m).min(t) }
+    whole + if (i as u64) < merged.table.m { 0 } else { rest.div_ceil(merged.table.m).min(t) }
 }

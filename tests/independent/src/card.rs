@@ -1,4 +1,4 @@
-//! A table to an archive of the release card and back. Written from request 2/12 and RFC 1071.
+//! A table to an archive of the release card and back. Written from request 2/12 and RFC 1071, and for tables with groups from request 9/12.
 
 use crate::table::{Lock, Refusal, Table, Task, LOCKS, TASKS};
 
@@ -61,6 +61,12 @@ pub fn write(table: &Table) -> Vec<u8> {
         archive.extend_from_slice(&block(table.m, table.n, index as u64 + 1, task));
     }
     archive
+}
+
+/// The same of a table that is handed over, or why there is none. A card of version 1 has no room for groups.
+pub fn archived(table: &Table) -> Result<Vec<u8>, Refusal> {
+    table.check()?;
+    if table.has_groups() { Err((20, 0)) } else { Ok(write(table)) }
 }
 
 pub fn read(bytes: &[u8]) -> Result<Table, Refusal> {

@@ -302,6 +302,203 @@ pub const ALPHA: &[(u32, &[&str])] = &[
     (7, &["task 10 5 10\nalpha 2\ntask 10 5 10\nuse 1 1 6 6"]),
 ];
 
+/// Request 9/12: group 2 is resources 1 and 3, and resource 2, which is in none, stands by itself. Resource 16, which nobody uses, is in a group too.
+pub const TOGETHER: &str = "cpus 2
+group 2 1
+group 2 3
+group 9 16
+task 40 9 40
+use 1 1 2 2
+use 2 1 1 1
+use 3 2 1 2
+task 40 9 40
+use 1 2 1.5 3
+use 2 3 0.5 1.5
+use 4 1 0.7 0.7
+";
+
+/// Two listings whose groups make a bound larger. In the first the tasks share nothing without them. In the second task 2, which uses no lock, has to do with
+/// task 3's only by the group, which task 1 uses too.
+pub const COARSER: [&str; 2] = [
+    "cpus 1\ngroup 1 1\ngroup 1 2\ntask 10 1 10\nuse 1 1 1 1\ntask 10 2 10\nuse 2 1 2 2\n",
+    "cpus 1\ngroup 1 1\ngroup 1 2\ntask 10 1 10\nuse 1 1 1 1\ntask 10 1 10\ntask 10 2 10\nuse 2 1 2 2\n",
+];
+
+/// Two whose groups make one bound larger, task 1's, and another one smaller, the last task's. The first is the one that the search finds.
+pub const COARSER_AND_SMALLER: [&str; 2] = [
+    "cpus 1\ngroup 1 1\ngroup 1 2\ntask 5 2 4\nuse 1 1 1 1\nuse 2 1 1 1\ntask 5 1 5\nuse 1 1 1 1\n",
+    "cpus 2\ngroup 1 1\ngroup 1 2\ntask 6 2 4\nuse 1 1 1 1\nuse 2 1 1 1\ntask 4 1 4\ntask 5 1 5\nuse 1 1 1 1\n",
+];
+
+/// One whose groups make one bound smaller, task 2's, and none larger.
+pub const SMALLER: &str = "cpus 1
+group 1 1
+group 1 2
+task 8 2 8
+use 1 1 1 1
+use 2 1 1 1
+task 13 1 13
+use 1 1 1 1
+task 10 2 10
+use 1 1 1 1
+use 2 1 1 1
+";
+
+/// What a group presumes: that it is held in one go no longer than the longest of its requests as typed. Task 2 does not let it go between its two locks, and
+/// task 1's bound does not hold.
+pub const OVERLAPPING: &str = "cpus 2\ngroup 1 1\ngroup 1 2\ntask 10 1 10\nuse 1 1 1 1\ntask 20 4 20\nuse 1 1 2 2\nuse 2 1 2 2\n";
+
+/// The same typed as it is held: from the first lock's start to the second's end.
+pub const OVERLAPPING_TYPED: &str = "cpus 2\ngroup 1 1\ngroup 1 2\ntask 10 1 10\nuse 1 1 1 1\ntask 20 4 20\nuse 1 1 3 3\nuse 2 1 1 1\n";
+
+/// Group 2 is resources 1 and 3, and resource 2 is in none: who merges them in another way prints other bounds or other waits. It was searched for.
+pub const MERGED: &str = "cpus 1
+group 2 1
+group 2 3
+task 20 2 20
+alpha 2
+use 3 1 1 1
+task 20 1 20
+alpha 2
+use 2 1 1 1
+task 20 4 20
+alpha 2
+use 1 1 1 1
+use 3 1 2 2
+task 20 1 20
+alpha 2
+use 1 1 1 1
+";
+
+/// Lines about groups, from the second on, with the refusal of the last line, or 0 if they are accepted; of 17 the place is 0.
+pub const GROUPS: &[(u32, &[&str])] = &[
+    // after `cpus` and before any task, both numbers from 1 to 16, in any spelling of a count
+    (0, &[
+        "group 1 1\ntask 10 5 10",
+        "group 16 16\ntask 10 5 10",
+        "group 0016 016\ntask 10 5 10",
+        "group 01 0001\ntask 10 5 10",
+        "group 1 16\ntask 10 5 10\nuse 1 1 1 1",
+        "group 1 1\ntask 10 5 10\nalpha 2\nuse 1 1 1 1\nuse 2 1 1 1",
+        "group 2 1\ngroup 2 3\ntask 10 5 10\nuse 1 1 1 1\nuse 2 1 1 1\nuse 3 1 1 1\ntask 10 5 10\nuse 1 1 1 1\nuse 2 1 1 1\nuse 3 1 1 1",
+    ]),
+    // K rising; G may rise, fall and come again
+    (0, &[
+        "group 1 1\ngroup 1 2\ntask 10 5 10",
+        "group 5 1\ngroup 4 2\ngroup 5 16\ntask 10 5 10",
+        "group 1 9\ngroup 1 0010\ntask 10 5 10",
+        "group 16 1\ngroup 1 16\ntask 10 5 10",
+    ]),
+    // a wrong number of fields, an empty one, another word
+    (2, &[
+        "group",
+        "group 1",
+        "group 1 1 1",
+        "group 1 1 1 1",
+        "group ",
+        "group 1 ",
+        "group  1 1",
+        "group 1  1",
+        "group 1 1 ",
+        " group 1 1",
+        "group\t1 1",
+        "group1 1",
+        "Group 1 1",
+        "grou 1 1",
+        "groups 1 1",
+        "group 1 1\n",
+    ]),
+    // after a task line, be it at once or later
+    (2, &[
+        "task 10 5 10\ngroup 1 1",
+        "task 10 5 10\nuse 1 1 1 1\ngroup 1 1",
+        "task 10 5 10\nalpha 1\ngroup 1 1",
+        "group 1 1\ntask 10 5 10\ngroup 1 2",
+        "group 1 1\ntask 10 5 10\nuse 1 1 1 1\ngroup 1 2",
+    ]),
+    // groups do not take the place of a task
+    (2, &["group 1 1\nuse 1 1 1 1", "group 1 1\nalpha 1", "group 1 1\ncpus 2", "cpus 2"]),
+    // 2 comes before 3, 4 and 19
+    (2, &[
+        "group x 1 1",
+        "group 0 0 0",
+        "group 1 2\ngroup 1 1 1",
+        "task 10 5 10\ngroup x 1",
+        "task 10 5 10\ngroup 17 17",
+        "group 1 2\ntask 10 5 10\ngroup 1 1",
+        "task 10 5 10\ngroup 0 0",
+    ]),
+    // no count; also where 4 or 19 would come after
+    (3, &[
+        "group x 1",
+        "group 1 x",
+        "group 1x 1",
+        "group -1 1",
+        "group 1 +1",
+        "group 1.0 1",
+        "group 1 1.",
+        "group 1 1\r",
+        "group 00001 1",
+        "group 1 00001",
+        "group 10000 1",
+        "group 1 4294967297",
+        "group 0 x",
+        "group 17 x",
+        "group x 17",
+        "group 1 2\ngroup 1 00001",
+        "group 1 2\ngroup x 2",
+        "group 1 2\ngroup x 1",
+    ]),
+    // out of range; also where 19 would come after. A byte would read 256 as 0, and 257 as 1
+    (4, &[
+        "group 0 1",
+        "group 1 0",
+        "group 0 0",
+        "group 0000 1",
+        "group 17 1",
+        "group 1 17",
+        "group 0017 1",
+        "group 17 17",
+        "group 256 1",
+        "group 257 1",
+        "group 1 256",
+        "group 1 257",
+        "group 9999 9999",
+        "group 1 1\ngroup 1 0",
+        "group 1 2\ngroup 17 1",
+        "group 1 2\ngroup 0 2",
+        "group 1 16\ngroup 1 17",
+    ]),
+    // K not above that of the group line before: equal, or falling, whatever G is
+    (19, &[
+        "group 1 1\ngroup 1 1",
+        "group 1 1\ngroup 2 1",
+        "group 1 1\ngroup 2 0001",
+        "group 2 16\ngroup 1 16",
+        "group 1 2\ngroup 1 1",
+        "group 1 2\ngroup 3 1",
+        "group 1 10\ngroup 1 9",
+        "group 1 16\ngroup 2 1",
+        "group 1 1\ngroup 1 3\ngroup 1 2",
+        "group 1 1\ngroup 1 2\ngroup 1 1",
+    ]),
+    // the lines after them get their own
+    (3, &["group 1 1\ntask 10 x 10"]),
+    (4, &["group 1 1\ntask 10 0 10", "group 1 1\ntask 10 5 10\nuse 17 1 1 1"]),
+    (5, &["group 1 1\ntask 10 11 10"]),
+    (6, &["group 1 1\ngroup 1 2\ntask 10 5 10\nuse 2 1 1 1\nuse 1 1 1 1", "group 1 1\ngroup 1 2\ntask 10 5 10\nuse 1 1 1 1\nuse 1 1 1 1"]),
+    // of the pairs as typed: merged, the first two would do
+    (7, &[
+        "group 1 1\ngroup 1 2\ntask 10 5 10\nuse 1 2 1 1\nuse 2 1 0.2 0.1",
+        "group 1 1\ngroup 1 2\ntask 10 5 10\nuse 1 2 1 1\nuse 2 1 0.2 0.3",
+        "group 1 1\ngroup 1 2\ntask 10 5 10\nuse 1 2 1 0.9",
+        "group 1 1\ngroup 1 2\ntask 10 5 10\nuse 1 1 1 1.1",
+        "group 1 1\ngroup 1 2\ntask 10 5 10\nuse 1 1 3 3\nuse 2 1 2.1 2.1",
+    ]),
+    (17, &["group 1 1\ntask 10 5 10\nalpha 2\ntask 10 5 10"]),
+    (18, &["group 1 1\ntask 10 5 10\nalpha 2\ntask 10 5 10\nalpha 3"]),
+];
+
 /// Times, and what they are in microseconds: rounded down, rounded up.
 pub const SPELLED: &[(&str, u64, u64)] = &[
     // three decimals or fewer: the same either way
@@ -483,9 +680,10 @@ fn largest_with_alpha() -> String {
     with_alpha(&largest(), 64)
 }
 
-/// Each field as long as it can be spelled: the longest listing that is accepted.
+/// Each field as long as it can be spelled: the longest listing that is accepted. Its groups make one resource of all, with 16,000 requests of each task.
 pub fn longest() -> String {
-    every_pair("10000.000000 00016.000000 10000.000000\nalpha 0064", "00000.000001 00000.999999")
+    let groups: String = (1..=16).map(|k| format!("group 0016 {k:04}\n")).collect();
+    with_lines(&every_pair("10000.000000 00016.000000 10000.000000\nalpha 0064", "00000.000001 00000.999999"), &groups)
 }
 
 /// Request 6/12: what task 1 runs makes task 2's length climb by one a round, from a C of 1. Task 1 lets go just before task 2's deadline, which
@@ -659,7 +857,10 @@ pub fn listings() -> Vec<Vec<u8>> {
     all.extend([BACKLOG, BACKLOG_BELOW, BACKLOG_ABOVE, QUEUED, TO_THE_LETTER, UNINHERITED, SPINNING].map(|text| text.as_bytes().to_vec()));
     all.extend(alphas().into_iter().map(|(text, _)| text.into_bytes()));
     all.extend(waits().into_iter().map(|(text, _)| text.into_bytes()));
-    all.extend([largest(), largest_with_alpha(), longest()].map(String::into_bytes));
+    let [coarser, smaller] = [COARSER, COARSER_AND_SMALLER];
+    all.extend([&[TOGETHER, MERGED, SMALLER, OVERLAPPING, OVERLAPPING_TYPED][..], &coarser, &smaller].concat().iter().map(|text| text.as_bytes().to_vec()));
+    all.extend(groups().into_iter().map(|(text, _)| text.into_bytes()));
+    all.extend([largest(), largest_with_alpha(), full_with_groups(), longest()].map(String::into_bytes));
     // a miss, and a bound, in the very last round that `report` allows
     all.extend([slow(), steps(10_000_000)].map(String::into_bytes));
     for length in [BYTES - 1, BYTES, BYTES + 1, BYTES + 2, 2 * BYTES] {
@@ -791,14 +992,20 @@ pub fn without_alpha(text: &str) -> String {
     text.lines().filter(|line| !line.starts_with("alpha ")).map(|line| format!("{line}\n")).collect()
 }
 
-/// Request 8/12: listings with the refusal that each gets, if any.
-pub fn alphas() -> Vec<(String, Option<Refusal>)> {
-    let mut all = Vec::new();
-    for (number, lines) in ALPHA.iter().flat_map(|(number, all)| all.iter().map(move |lines| (*number, *lines))) {
+/// Lines from the second on, as listings with the refusal that each gets, if any.
+fn answered(all: &[(u32, &[&str])]) -> Vec<(String, Option<Refusal>)> {
+    let each = all.iter().flat_map(|(number, all)| all.iter().map(move |lines| (*number, *lines)));
+    let answer = |(number, lines): (u32, &str)| {
         let text = format!("cpus 2\n{lines}\n");
         let last = text.matches('\n').count() as u32;
-        all.push((text, if number == 0 { None } else { Some((number, if number == 17 { 0 } else { last })) }));
-    }
+        (text, if number == 0 { None } else { Some((number, if number == 17 { 0 } else { last })) })
+    };
+    each.map(answer).collect()
+}
+
+/// Request 8/12: listings with the refusal that each gets, if any.
+pub fn alphas() -> Vec<(String, Option<Refusal>)> {
+    let mut all = answered(ALPHA);
     all.push(("alpha 1\n".into(), Some((2, 1))));
     all.push(("alpha 1\ncpus 2\ntask 10 5 10\n".into(), Some((2, 1))));
     all.push(("cpus 2\nalpha 2\ntask 10 5 10\nalpha 2\n".into(), Some((2, 2))));
@@ -817,6 +1024,54 @@ pub fn alphas() -> Vec<(String, Option<Refusal>)> {
     all.push((with_alphas(&tasks(33), |_| Some(5)), Some((8, 66))));
     all.push((with_alphas(&tasks(33), |i| (i < 32).then_some(5)), Some((8, 66))));
     all.push((with_alpha(CASE_A, 64), None));
+    all
+}
+
+/// The lines that put resources 1 to 16 into these groups; 0 is none.
+pub fn group_lines(groups: [u32; 16]) -> String {
+    (1..).zip(groups).filter(|(_, group)| *group > 0).map(|(k, group)| format!("group {group} {k}\n")).collect()
+}
+
+/// The listing with these lines after the first.
+pub fn with_lines(text: &str, lines: &str) -> String {
+    let (cpus, rest) = text.split_once('\n').expect("a first line");
+    format!("{cpus}\n{lines}{rest}")
+}
+
+/// The listing without the lines of groups.
+pub fn without_groups(text: &str) -> String {
+    text.lines().filter(|line| !line.starts_with("group ")).map(|line| format!("{line}\n")).collect()
+}
+
+/// Eight groups of two neighbours.
+const EIGHT_OF_TWO: [u32; 16] = [1, 1, 2, 2, 3, 3, 4, 4, 5, 5, 6, 6, 7, 7, 8, 8];
+
+/// Request 9/12: listings with the refusal that each gets, if any.
+pub fn groups() -> Vec<(String, Option<Refusal>)> {
+    let mut all = answered(GROUPS);
+    // before `cpus`, and with nothing after it: place 2 is that of 9 whatever the last line is
+    all.push(("group 1 1\n".into(), Some((2, 1))));
+    all.push(("group 17 x\n".into(), Some((2, 1))));
+    all.push(("group 1 1\ncpus 2\ntask 10 5 10\n".into(), Some((2, 1))));
+    all.push(("cpus 2\ngroup 1 1".into(), Some((2, 2))));
+    all.push(("cpus 2\ngroup 1 1\n".into(), Some((9, 2))));
+    all.push(("cpus 2\ngroup 1 1\ngroup 1 2\ngroup 1 3\n".into(), Some((9, 2))));
+    all.push((with_lines("cpus 2\n", &group_lines(EIGHT_OF_TWO)), Some((9, 2))));
+    // every resource, and one more
+    let every = [[1; 16], [16; 16], EIGHT_OF_TWO, std::array::from_fn(|k| k as u32 + 1), std::array::from_fn(|k| 16 - k as u32)];
+    for lines in every.map(group_lines) {
+        all.push((with_lines(CASE_A, &lines), None));
+        all.push((with_lines(WAITING, &lines), None));
+        all.push((with_lines(EQUAL_VALUES, &lines), None));
+        all.push((with_lines(CASE_A, &format!("{lines}group 1 16\n")), Some((19, 18))));
+        all.push((with_lines(CASE_A, &format!("{lines}group 1 17\n")), Some((4, 18))));
+        all.push((format!("{}{lines}", tasks(1)), Some((2, 3))));
+    }
+    // 32 tasks and one more
+    let grouped = |text: &str| with_lines(text, &group_lines(EIGHT_OF_TWO));
+    all.push((grouped(&tasks(32)), None));
+    all.push((grouped(&tasks(33)), Some((8, 50))));
+    all.push((grouped(&with_alphas(&tasks(32), |i| (i < 31).then_some(5))), Some((17, 0))));
     all
 }
 
@@ -868,14 +1123,20 @@ fn full() -> String {
     text
 }
 
+/// The same with eight groups of two: of each group every task uses one, so that every task shares a lock with every other.
+fn full_with_groups() -> String {
+    with_lines(&full(), &group_lines(EIGHT_OF_TWO))
+}
+
 fn ms(us: u64) -> String {
     format!("{}.{:03}", us / 1000, us % 1000)
 }
 
 /// What the benchmark runs both programs on.
-pub fn benchmark() -> [(&'static str, String); 8] {
+pub fn benchmark() -> [(&'static str, String); 9] {
     [
         ("full", full()),
+        ("full-groups", full_with_groups()),
         ("largest", largest()),
         ("largest-alpha", largest_with_alpha()),
         ("slow", slow()),

@@ -10,7 +10,7 @@ use crate::programs::Said;
 use crate::random::Random;
 use crate::report::{self, Program, BENCH, REPORT};
 use crate::table::Table;
-use crate::{cases, generate, listing, strides, waits};
+use crate::{cases, generate, groups, listing, strides, waits};
 
 const VALID: u64 = 1_500;
 const DAMAGED: u64 = 2_500;
@@ -18,6 +18,8 @@ const LONG_AMONG_SHORT: u64 = 600;
 const BROKEN_OFF: u64 = 400;
 const MANY_PAIRS: u64 = 200;
 const DAMAGED_ALPHA: u64 = 700;
+const GROUPED: u64 = 600;
+const DAMAGED_GROUPS: u64 = 500;
 
 /// What came up: how many listings or tables were compared, and each answer, of which a table gets several.
 pub struct Tally {
@@ -149,10 +151,11 @@ fn count_nearly_open(tally: &mut Tally, reported: &str) {
     }
 }
 
-/// A listing of an accepted table, of which alpha is spelled by other numbers. Verdicts alone would not show that a field was misread here.
+/// A listing of an accepted table, of which alpha and groups are spelled by other numbers. Verdicts alone would not show that a field was misread here.
 fn spelled(r: &mut Random, alphas: &mut Random, table: Table) -> Vec<u8> {
     let mut lines = generate::lines(r, &table);
     generate::put_alpha(alphas, &table, &mut lines);
+    generate::put_groups(alphas, &table, &mut lines);
     let listing = generate::join(&lines);
     assert_eq!(listing::read(&listing), Ok(table), "not read as the table it spells");
     listing
@@ -168,6 +171,20 @@ fn damaged_alpha(r: &mut Random) -> Vec<u8> {
         generate::damage_alpha(r, &mut lines);
     }
     if r.one_in(4) { generate::damage(r, &mut lines) } else { generate::join(&lines) }
+}
+
+/// A listing with groups, and what is said of them damaged, alone or beside something else, with alpha and without.
+fn damaged_groups(r: &mut Random) -> Vec<u8> {
+    let table = generate::table(r);
+    let table = generate::some_with_alpha(r, table);
+    let table = generate::with_groups(r, table);
+    let mut lines = generate::lines(r, &table);
+    generate::put_alpha(r, &table, &mut lines);
+    generate::put_groups(r, &table, &mut lines);
+    for _ in 0..*r.pick(&[0, 1, 1, 1, 2]) {
+        generate::damage_groups(r, &mut lines);
+    }
+    if r.one_in(5) { generate::damage(r, &mut lines) } else { generate::join(&lines) }
 }
 
 /// The listings that are compared, in a fixed order.
@@ -205,6 +222,9 @@ pub fn listings() -> Vec<Vec<u8>> {
         all.push(spelled(&mut r, &mut alphas, table));
     }
     all.extend((0..DAMAGED_ALPHA).map(|_| damaged_alpha(&mut r)));
+    let (mut r, mut groups) = (Random::new(34), Random::new(35));
+    all.extend(groups::tables(36, GROUPED).map(|table| spelled(&mut r, &mut groups, table)));
+    all.extend((0..DAMAGED_GROUPS).map(|_| damaged_groups(&mut r)));
     all
 }
 
@@ -223,7 +243,8 @@ fn traced(listing: &[u8]) -> bool {
 
 /// Request 3/12: whoever had a bound by the uncapped workload keeps one, no larger. Counts what the cap changes.
 fn capped(tally: &mut Tally, table: &Table) -> bool {
-    let before: Vec<Found> = (0..table.n as usize).map(|i| found_by(table, i, By::Uncapped)).collect();
+    let merged = table.merged();
+    let before: Vec<Found> = (0..table.n as usize).map(|i| found_by(&merged, i, By::Uncapped)).collect();
     // the report that was compared has held these to the paper's terms
     let after = quick(table, UNLIMITED);
     let pairs = || before.iter().zip(&after).map(|(old, new)| (old.bound(), new.bound()));
@@ -243,21 +264,23 @@ fn capped(tally: &mut Tally, table: &Table) -> bool {
     true
 }
 
-/// What came up in the reports: of `report`, of these where a time has more decimals, the cap counts or rounds climb alike, in its waits, and of `bench`.
+/// What came up in the reports: of `report`, of these where a time has more decimals, the cap counts or rounds climb alike, in its waits
+/// and groups, and of `bench`.
 struct Reports {
     all: Tally,
     with_decimals: Tally,
     by_cap: Tally,
     breaks: Tally,
     waits: Tally,
+    groups: Tally,
     by_bench: Tally,
     nearly_open: Tally,
 }
 
 impl Reports {
     fn new() -> Reports {
-        let [all, with_decimals, by_cap, breaks, waits, by_bench, nearly_open] = std::array::from_fn(|_| Tally::new());
-        Reports { all, with_decimals, by_cap, breaks, waits, by_bench, nearly_open }
+        let [all, with_decimals, by_cap, breaks, waits, groups, by_bench, nearly_open] = std::array::from_fn(|_| Tally::new());
+        Reports { all, with_decimals, by_cap, breaks, waits, groups, by_bench, nearly_open }
     }
 
     fn count(&mut self, listing: &[u8], reported: &str, benched: &str) {
@@ -272,11 +295,13 @@ impl Reports {
         count_nearly_open(&mut self.nearly_open, reported);
     }
 
-    /// What comes up in an accepted table: what breaks rounds off that climb alike, and what the waits are made of.
+    /// What comes up in an accepted table: what its groups are, what breaks rounds off that climb alike, and what the waits are made of.
     fn count_tasks(&mut self, table: &Table) {
+        groups::kinds(table).iter().for_each(|kind| self.groups.count(kind.to_string()));
+        let merged = table.merged();
         for i in 0..table.n as usize {
-            strides::breaks(table, i, REPORT).iter().for_each(|by| self.breaks.count(by.to_string()));
-            waits::kinds(table, i).iter().for_each(|kind| self.waits.count(kind.to_string()));
+            strides::breaks(&merged, i, REPORT).iter().for_each(|by| self.breaks.count(by.to_string()));
+            waits::kinds(&merged, i).iter().for_each(|kind| self.waits.count(kind.to_string()));
         }
     }
 
@@ -286,6 +311,7 @@ impl Reports {
         self.by_cap.print(&format!("the {} accepted, beside the verdicts by the uncapped workload", self.by_cap.compared));
         self.breaks.print("their tasks whose rounds climb alike, by what breaks these off");
         self.waits.print("their tasks, by what their waits are made of");
+        self.groups.print("their tables, by their groups");
         self.by_bench.print(&format!("reports of bench: {} compared", self.by_bench.compared));
         self.nearly_open.print("their tasks that take as many rounds as it allows, or one more");
     }
@@ -295,7 +321,7 @@ impl Reports {
             let refused = refusals.iter().map(|k| format!("refused {k:>2}"));
             refused.chain(accepted.iter().map(|how| format!("accepted, {how}"))).collect::<Vec<_>>()
         };
-        let every = [1, 2, 3, 4, 5, 6, 7, 8, 9, 17, 18];
+        let every = [1, 2, 3, 4, 5, 6, 7, 8, 9, 17, 18, 19];
         let with_times = [2, 3, 4, 5, 6, 7, 8, 17, 18];
         let decided = ["all meet", "with a miss"];
         let open = ["with an open verdict", "with a miss and an open verdict"];
@@ -306,6 +332,7 @@ impl Reports {
             && self.by_cap.covers(&["a bound is smaller", "a miss became a bound"].map(String::from))
             && self.breaks.covers(&[strides::CLIMB, strides::CAP, strides::BOUND, strides::DEADLINE].map(String::from))
             && self.waits.covers(&waits::KINDS.map(String::from))
+            && self.groups.covers(&groups::KINDS.map(String::from))
             && self.by_bench.covers(&wanted(&every, &[decided, open].concat()))
             && self.nearly_open.covers(&nearly.map(String::from))
     }

@@ -32,7 +32,7 @@ fn text(tasks: &Tasks) -> String {
 /// What is said of task 2 if its rounds are not limited.
 fn second(text: &str) -> Found {
     let table = listing::read(text.as_bytes()).expect("an accepted listing");
-    iterate(&table, 1, By::Capped, UNLIMITED)
+    iterate(&table.merged(), 1, By::Capped, UNLIMITED)
 }
 
 /// The tables whose longest period is this, in the order of their figures. Task 2's own period is not in its demand: it is its deadline.

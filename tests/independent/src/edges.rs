@@ -1,7 +1,7 @@
-//! Tables a step inside and a step outside every limit. Chance seldom sets a field of a used pair to just such a number. And tables with alpha whose
-//! refusal is known.
+//! Tables a step inside and a step outside every limit. Chance seldom sets a field of a used pair to just such a number. And tables with alpha or groups
+//! whose refusal is known.
 
-use crate::table::{Lock, Refusal, Table, Task, ALPHA, COUNT, CPUS, TASKS, TIME};
+use crate::table::{Lock, Refusal, Table, Task, ALPHA, COUNT, CPUS, LOCKS, TASKS, TIME};
 
 /// The locks that are changed in both tasks: 1 both use, 2 and 16 one does, 8 neither.
 const CHANGED: [usize; 4] = [0, 1, 7, 15];
@@ -181,5 +181,105 @@ fn past_the_last() -> Vec<Named> {
         ("200 past the last task", two(&[2, 2, 200]), None),
         ("200 past the last task only", two(&[0, 0, 200]), None),
         ("alpha of the first task and past the last", two(&[2, 0, 2]), Some((17, 0))),
+    ]
+}
+
+/// Request 9/12: where groups are refused, and what comes before and after.
+pub fn groups() -> Vec<Named> {
+    [grouped(), above_the_limit(), as_typed(), beside_alpha()].concat()
+}
+
+/// The base with these resources, counted from 1, in groups.
+fn with_groups(groups: &[(usize, u32)]) -> Table {
+    let mut table = base();
+    groups.iter().for_each(|(k, group)| table.groups[k - 1] = *group);
+    table
+}
+
+fn grouped() -> Vec<Named> {
+    let every = |group: fn(u32) -> u32| Table { groups: std::array::from_fn(|k| group(k as u32 + 1)), ..base() };
+    let often = || {
+        let mut table = every(|_| 3);
+        table.tasks[1].locks = [Lock { n: COUNT, c: 1, ct: 1 }; LOCKS];
+        table
+    };
+    vec![
+        ("one resource in a group", with_groups(&[(1, 1)]), None),
+        ("the last resource in the last group", with_groups(&[(16, 16)]), None),
+        ("two in a group that one task uses", with_groups(&[(1, 1), (16, 1)]), None),
+        ("two in a group that both tasks use", with_groups(&[(1, 2), (2, 2)]), None),
+        ("two in a group with the number of another", with_groups(&[(1, 2), (16, 2)]), None),
+        ("two in a group with the number of one that nobody uses", with_groups(&[(1, 8), (2, 8)]), None),
+        ("one that nobody uses in a group", with_groups(&[(8, 1)]), None),
+        ("two that nobody uses in a group", with_groups(&[(8, 9), (9, 9)]), None),
+        ("one in use and one that nobody uses in a group", with_groups(&[(1, 8), (8, 8)]), None),
+        ("all sixteen in the first group", every(|_| 1), None),
+        ("all sixteen in the last group", every(|_| 16), None),
+        ("sixteen groups of one", every(|k| k), None),
+        ("sixteen groups of one, backwards", every(|k| 17 - k), None),
+        ("eight groups of two neighbours", every(|k| k.div_ceil(2)), None),
+        ("eight groups of two, eight apart", every(|k| (k - 1) % 8 + 1), None),
+        ("a group with 16,000 requests of one task", often(), None),
+    ]
+}
+
+/// What 4 is for, with place 0: of all sixteen resources, also of those that nobody uses. It comes after 9 and 8, and before all tasks.
+fn above_the_limit() -> Vec<Named> {
+    let beyond = || with_groups(&[(8, 17)]);
+    let four = Some((4, 0));
+    vec![
+        ("group 17 of the first resource", with_groups(&[(1, 17)]), four),
+        ("group 17 of the last resource", with_groups(&[(16, 17)]), four),
+        ("group 17 of a resource that one task uses", with_groups(&[(2, 17)]), four),
+        ("group 17 of one that nobody uses", beyond(), four),
+        ("group 17 after good ones", with_groups(&[(1, 1), (2, 1), (3, 16), (4, 17)]), four),
+        ("group 32", with_groups(&[(1, 32)]), four),
+        ("group 256, of which a byte is 0", with_groups(&[(1, 256)]), four),
+        ("group 257, of which a byte is 1", with_groups(&[(1, 257)]), four),
+        ("group 65,536", with_groups(&[(1, 1 << 16)]), four),
+        ("group 2,147,483,648", with_groups(&[(1, 1 << 31)]), four),
+        ("the most that a word holds", with_groups(&[(1, u32::MAX)]), four),
+        ("the most that a word holds, of one that nobody uses", with_groups(&[(8, u32::MAX)]), four),
+        ("a group above the limit and m 0", Table { m: 0, ..beyond() }, four),
+        ("a group above the limit before 4 of T", with_task(beyond(), 1, |task| task.t = 0), four),
+        ("a group above the limit before 5", with_task(beyond(), 1, |task| task.d = TIME - 1), four),
+        ("a group above the limit before 7", with_task(beyond(), 1, |task| task.locks[0].ct = 1), four),
+        ("a group above the limit after 8", Table { n: 33, ..beyond() }, Some((8, 0))),
+        ("a group above the limit after 8, which the high word shows", Table { n: (1 << 32) + 2, ..beyond() }, Some((8, 0))),
+        ("a group above the limit after 9", Table { n: 0, ..beyond() }, Some((9, 0))),
+        ("good groups and no task", Table { n: 0, ..with_groups(&[(1, 1)]) }, Some((9, 0))),
+        ("good groups and m 65", Table { m: 65, ..with_groups(&[(1, 1)]) }, four),
+    ]
+}
+
+/// 4 and 7 are of the pairs as typed: merged, each of these would do.
+fn as_typed() -> Vec<Named> {
+    let both = || with_groups(&[(1, 2), (2, 2), (8, 2)]);
+    vec![
+        ("CT below c of a member", with_task(both(), 2, |task| task.locks[0].ct = 19), Some((7, 2))),
+        ("CT above N times c of a member", with_task(both(), 2, |task| task.locks[1].ct = 31), Some((7, 2))),
+        ("c of a member that is not used", with_task(both(), 2, |task| task.locks[7].c = 1), Some((4, 2))),
+        ("CT of a member that is not used", with_task(both(), 2, |task| task.locks[7].ct = 1), Some((4, 2))),
+        ("c of a member that is not used, and 5", with_task(with_task(both(), 2, |task| task.locks[7].c = 1), 2, |task| task.d = 99), Some((5, 2))),
+        ("1,001 requests of a member", with_task(both(), 2, |task| task.locks[0].n = COUNT + 1), Some((4, 2))),
+        ("the CT of the members above C", with_task(both(), 2, |task| task.c = 49), Some((7, 2))),
+    ]
+}
+
+/// A group above the limit comes before 17, and before 4 and 18 of alpha.
+fn beside_alpha() -> Vec<Named> {
+    let with = |alphas: &[u64], group: u32| {
+        let mut table = with_alphas(alphas);
+        table.groups[0] = group;
+        table
+    };
+    vec![
+        ("groups and alpha", with(&[3, 2, 1], 16), None),
+        ("a group above the limit before 17", with(&[2, 0, 2], 17), Some((4, 0))),
+        ("a group above the limit before 18", with(&[2, 3, 3], 17), Some((4, 0))),
+        ("a group above the limit before 4 of alpha", with(&[65, 65, 65], 17), Some((4, 0))),
+        ("17 beside a good group", with(&[2, 0, 2], 16), Some((17, 0))),
+        ("18 beside a good group", with(&[2, 3, 3], 16), Some((18, 2))),
+        ("4 of alpha beside a good group", with(&[65, 65, 65], 16), Some((4, 1))),
     ]
 }

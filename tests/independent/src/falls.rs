@@ -37,7 +37,7 @@ fn text(figures: &Figures) -> String {
 /// The verdict on task 2.
 fn second(text: &str) -> Verdict {
     let table = listing::read(text.as_bytes()).expect("an accepted listing");
-    iterate(&table, 1, By::Capped, UNLIMITED).verdict
+    iterate(&table.merged(), 1, By::Capped, UNLIMITED).verdict
 }
 
 /// The most that the total can be.

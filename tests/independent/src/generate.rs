@@ -2,7 +2,7 @@
 
 use crate::listing::{self, Round};
 use crate::random::Random;
-use crate::table::{Lock, Table, Task, ALPHA, COUNT, LOCKS, TASKS, TIME};
+use crate::table::{Lock, Table, Task, ALPHA, COUNT, GROUPS, LOCKS, TASKS, TIME};
 
 /// A table that nothing is to be said against.
 pub fn table(r: &mut Random) -> Table {
@@ -149,6 +149,72 @@ pub fn some_with_alpha(r: &mut Random, table: Table) -> Table {
 /// The same table with other alphas: given, taken away, or others.
 pub fn other_alpha(r: &mut Random, table: &Table) -> Table {
     if r.one_in(3) { table.without_alpha() } else { with_alpha(r, table.clone()) }
+}
+
+/// The table with groups: of resources in use and of others, all sixteen in one, sixteen of one, numbers that are other resources' too.
+pub fn with_groups(r: &mut Random, mut table: Table) -> Table {
+    let tasks = &table.tasks[..table.n.min(TASKS as u64) as usize];
+    let (in_use, others): (Vec<usize>, Vec<usize>) = (0..LOCKS).partition(|&k| tasks.iter().any(|task| task.locks[k].n > 0));
+    table.groups = match r.within(0, 9) {
+        0 => [number(r); LOCKS],
+        1 => sixteen(r),
+        // eight of two
+        2 => sixteen(r).map(|group| group.div_ceil(2)),
+        3 => of_some(r, &[0; LOCKS], &others),
+        4 => named_after_another(r, &in_use),
+        5 => std::array::from_fn(|_| r.within(0, GROUPS as u64) as u32),
+        _ => {
+            let several = [0, number(r), number(r), number(r)];
+            let any = std::array::from_fn(|_| *r.pick(&several));
+            of_some(r, &any, &in_use)
+        }
+    };
+    table
+}
+
+/// Any number that a group may have.
+fn number(r: &mut Random) -> u32 {
+    r.within(1, GROUPS as u64) as u32
+}
+
+/// Sixteen numbers, each once.
+fn sixteen(r: &mut Random) -> [u32; LOCKS] {
+    let mut all = std::array::from_fn(|k| k as u32 + 1);
+    if !r.one_in(4) {
+        (1..LOCKS).rev().for_each(|at| all.swap(at, r.within(0, at as u64) as usize));
+    }
+    all
+}
+
+/// These groups, with some of these resources (from 0) in one more; there may be none.
+fn of_some(r: &mut Random, groups: &[u32; LOCKS], resources: &[usize]) -> [u32; LOCKS] {
+    let (mut all, group) = (*groups, number(r));
+    resources.iter().filter(|_| r.one_in(2)).for_each(|&k| all[k] = group);
+    all
+}
+
+/// One group of some of these resources (from 0), with the number of one that is in no group.
+fn named_after_another(r: &mut Random, resources: &[usize]) -> [u32; LOCKS] {
+    let mut all = [0; LOCKS];
+    let by_itself = if resources.is_empty() { 0 } else { *r.pick(resources) };
+    (0..LOCKS).filter(|&k| k != by_itself && (resources.contains(&k) || r.one_in(4))).for_each(|k| all[k] = by_itself as u32 + 1);
+    all
+}
+
+/// One table in three with groups.
+pub fn some_with_groups(r: &mut Random, table: Table) -> Table {
+    if r.one_in(3) { with_groups(r, table) } else { table }
+}
+
+/// The same table with its groups numbered otherwise.
+pub fn renumbered(r: &mut Random, table: &Table) -> Table {
+    let numbers = sixteen(r);
+    Table { groups: table.groups.map(|group| if group == 0 { 0 } else { numbers[group as usize - 1] }), ..table.clone() }
+}
+
+/// The same table with groups of one: some of its resources by themselves, and each in a group of its own.
+pub fn groups_of_one(r: &mut Random, table: &Table) -> Table {
+    Table { groups: sixteen(r).map(|group| if r.one_in(3) { 0 } else { group }), ..table.without_groups() }
 }
 
 /// The first two kinds in turn, from a seed of their own.
@@ -320,7 +386,7 @@ fn count(r: &mut Random, x: u64) -> String {
     format!("{x:0width$}")
 }
 
-/// A listing of a table, but for alpha, in some spelling, as lines without their LF. Half of them have three decimals at most.
+/// A listing of a table, but for alpha and groups, in some spelling, as lines without their LF. Half of them have three decimals at most.
 pub fn lines(r: &mut Random, table: &Table) -> Vec<String> {
     let traced = r.one_in(2);
     let down = |r: &mut Random, us: u64| time(r, us, Round::Down, traced);
@@ -345,6 +411,13 @@ pub fn put_alpha(r: &mut Random, table: &Table, lines: &mut Vec<String>) {
         lines.push(line);
         lines.extend(task.filter(|task| task.alpha > 0).map(|task| format!("alpha {}", count(r, task.alpha))));
     }
+}
+
+/// Puts the groups of the table into its listing, in some spelling.
+pub fn put_groups(r: &mut Random, table: &Table, lines: &mut Vec<String>) {
+    let grouped = (1..).zip(table.groups).filter(|(_, group)| *group > 0);
+    let groups: Vec<String> = grouped.map(|(k, group)| format!("group {} {}", count(r, group as u64), count(r, k))).collect();
+    lines.splice(1..1, groups);
 }
 
 pub fn join(lines: &[String]) -> Vec<u8> {
@@ -462,6 +535,44 @@ pub fn damage_alpha(r: &mut Random, lines: &mut Vec<String>) {
         10 => lines[at] = format!("alpha {}", odd_field(r)),
         _ => lines[at] = made,
     }
+}
+
+/// One change of what a listing says of groups: of a line, of a field or of a place.
+pub fn damage_groups(r: &mut Random, lines: &mut Vec<String>) {
+    let (anywhere, last) = (r.next() as usize % (lines.len() + 1), lines.len() - 1);
+    let made = format!("group {} {}", some_number(r), some_number(r));
+    let own: Vec<usize> = (0..lines.len()).filter(|&at| lines[at].starts_with("group ")).collect();
+    if own.is_empty() {
+        return lines.insert(if r.one_in(2) { anywhere } else { 1.min(lines.len()) }, made);
+    }
+    let at = *r.pick(&own);
+    match r.within(0, 14) {
+        0 => drop(lines.remove(at)),
+        1 | 2 => lines.insert(at, lines[at].clone()),
+        3 => lines.insert(anywhere, made),
+        // the K falls, or the line comes before `cpus` or after a task
+        4 => lines.swap(at, *r.pick(&own)),
+        5 => lines.swap(at, last.min(at + 1)),
+        6 => {
+            let line = lines.remove(at);
+            lines.insert(*r.pick(&[0, 1, anywhere.min(last), last]), line);
+        }
+        7 => lines.insert(0, made),
+        8 => lines.push(made),
+        9 => lines[at] = format!("{} {} {}", r.pick(&["Group", "groups", "grou", "task", "use", "cpus", "alpha", ""]), some_number(r), some_number(r)),
+        10 => lines[at] = r.pick(&["group", "group ", "group 1", "group 1 ", "group 1 1 1", "group  1 1", "group 1  1", " group 1 1", "group 1 1 "]).to_string(),
+        11 => {
+            let odd = odd_field(r);
+            lines[at] = if r.one_in(2) { format!("group {odd} {}", some_number(r)) } else { format!("group {} {odd}", some_number(r)) };
+        }
+        _ => lines[at] = made,
+    }
+}
+
+/// The number of a group or of a resource in some spelling, or what is nearly one.
+fn some_number(r: &mut Random) -> String {
+    let x = if r.one_in(4) { *r.pick(&[0, 17, 18, 32, 256, 257, 9_999, 10_000]) } else { r.within(1, GROUPS as u64) };
+    count(r, x)
 }
 
 /// An alpha in some spelling, or what is nearly one.

@@ -1,6 +1,6 @@
-//! A listing to a table and back. Written from the paper's section 'The listing' and requests 1/12 and 8/12.
+//! A listing to a table and back. Written from the paper's section 'The listing' and requests 1/12, 8/12 and 9/12.
 
-use crate::table::{last_alpha, Lock, Refusal, Table, Task, ALPHA, BYTES, COUNT, CPUS, LOCKS, TASKS, TIME};
+use crate::table::{last_alpha, Lock, Refusal, Table, Task, ALPHA, BYTES, COUNT, CPUS, GROUPS, LOCKS, TASKS, TIME};
 use Round::{Down, Up};
 
 /// Which way a time goes to the whole microsecond.
@@ -17,7 +17,7 @@ pub fn read(bytes: &[u8]) -> Result<Table, Refusal> {
     if bytes.is_empty() {
         return Err((2, 1));
     }
-    let mut reader = Reader { table: Table::zero(), after_task: false, last: 0, sum: 0 };
+    let mut reader = Reader { table: Table::zero(), last_grouped: 0, after_task: false, last: 0, sum: 0 };
     let mut rest = bytes;
     let mut line = 1;
     while !rest.is_empty() {
@@ -40,6 +40,8 @@ pub fn read(bytes: &[u8]) -> Result<Table, Refusal> {
 
 struct Reader {
     table: Table,
+    /// The K of the group line before, 0 if there is none.
+    last_grouped: u64,
     /// Whether the line before is a task's.
     after_task: bool,
     last: u64,
@@ -54,6 +56,8 @@ impl Reader {
         }
         match (words[0], words.len()) {
             (b"cpus", 2) if line == 1 => self.cpus(words[1]),
+            // the first line is `cpus`, or the reading has ended there
+            (b"group", 3) if line > 1 && self.table.n == 0 => self.group(words[1], words[2]),
             (b"task", 4) if line > 1 => self.task(words[1], words[2], words[3]),
             (b"alpha", 2) if self.after_task => self.alpha(words[1]),
             (b"use", 5) if self.table.n > 0 => self.lock(&words[1..]),
@@ -65,6 +69,18 @@ impl Reader {
 
     fn cpus(&mut self, m: &[u8]) -> Result<(), u32> {
         self.table.m = ranged(count(m)?, CPUS)?;
+        Ok(())
+    }
+
+    fn group(&mut self, g: &[u8], k: &[u8]) -> Result<(), u32> {
+        let (g, k) = (count(g)?, count(k)?);
+        ranged(g, GROUPS as u64)?;
+        ranged(k, LOCKS as u64)?;
+        if k <= self.last_grouped {
+            return Err(19);
+        }
+        self.last_grouped = k;
+        self.table.groups[k as usize - 1] = g as u32;
         Ok(())
     }
 
@@ -156,6 +172,10 @@ pub fn time(text: &[u8], round: Round) -> Result<u64, u32> {
 pub fn write(table: &Table) -> String {
     let mut text = String::from("cpus");
     push_count(&mut text, table.m);
+    for (k, group) in (1..).zip(table.groups).filter(|(_, group)| *group > 0) {
+        text.push_str("\ngroup");
+        [group as u64, k].into_iter().for_each(|x| push_count(&mut text, x));
+    }
     for task in table.used() {
         text.push_str("\ntask");
         [task.t, task.c, task.d].into_iter().for_each(|us| push_time(&mut text, us));

@@ -13,6 +13,8 @@
 //!                                           task and the allowance with which the first is open and the second gives a bound
 //!     independent falls                     the smallest pair of request 7/12: a listing, an empty line, the listing with a lock held longer inside
 //!                                           the same run time, an empty line, and the task whose bound falls, with both bounds
+//!     independent smaller                   the smallest listing of request 9/12 whose groups make a bound smaller, and the task, with its bounds without
+//!                                           groups and with them
 //!     independent compare REPORT BENCH PROBE ARCHIVE UNARCHIVE SALVAGE
 //!                                           run them on many listings, tables, times, counts and cards and compare; exit 1 on a difference
 //!     independent simulate REPORT           simulate many schedules of systems in which all tasks meet by what REPORT prints; exit 1 on a job that is
@@ -30,8 +32,10 @@ mod easier;
 mod edges;
 mod falls;
 mod generate;
+mod groups;
 mod listing;
 mod measure;
+mod merge;
 mod no_easier;
 mod points;
 mod probe;
@@ -43,6 +47,7 @@ mod rounds;
 mod salvage;
 mod salvages;
 mod simulation;
+mod smaller;
 mod story;
 mod strides;
 mod table;
@@ -85,6 +90,10 @@ fn main() -> ExitCode {
             print!("{}", falls::find().text());
             ExitCode::SUCCESS
         }
+        ["smaller"] => {
+            print!("{}", smaller::find().text());
+            ExitCode::SUCCESS
+        }
         ["compare", report, bench, probe, archive, unarchive, salvage] => {
             points::hold();
             let same = compare::reports(report, bench)
@@ -106,7 +115,7 @@ fn main() -> ExitCode {
         ["closeness", ref words @ ..] => simulation::closeness(words),
         _ => {
             eprintln!("usage: independent report | bench | archive | unarchive | salvage | times PROGRAM COMMAND INPUT | listings FOLDER |");
-            eprintln!("       story | easier | falls | compare REPORT BENCH PROBE ARCHIVE UNARCHIVE SALVAGE |");
+            eprintln!("       story | easier | falls | smaller | compare REPORT BENCH PROBE ARCHIVE UNARCHIVE SALVAGE |");
             eprintln!("       simulate REPORT | closeness REPORT SYSTEMS SEED PAGE PICTURE");
             ExitCode::FAILURE
         }

@@ -22,11 +22,22 @@ pub fn is_longer(first: &Table, second: &Table) -> bool {
     is_no_easier(first, second) && same(second, &longer_alone(first, second))
 }
 
-/// The conditions on what a listing has: no more processors, no period longer, the same deadlines and pairs in use, and nothing else smaller.
+/// The conditions on what a listing has: no more processors, no period longer, the same groups, deadlines and pairs in use, and nothing else smaller.
 pub fn no_figure_is_easier(first: &Table, second: &Table) -> bool {
-    let lock = |(a, b): (&Lock, &Lock)| (a.n > 0) == (b.n > 0) && a.n <= b.n && a.c <= b.c && a.ct <= b.ct;
-    let task = |(a, b): (&Task, &Task)| a.t >= b.t && a.c <= b.c && a.d == b.d && a.locks.iter().zip(&b.locks).all(lock);
-    first.m >= second.m && first.n <= second.n && first.used().iter().zip(second.used()).all(task)
+    let locks = |a: &Task, b: &Task| a.locks.iter().zip(&b.locks).all(|(a, b)| no_pair_is_easier(a, b));
+    let task = |(a, b): (&Task, &Task)| a.t >= b.t && a.c <= b.c && a.d == b.d && locks(a, b);
+    first.m >= second.m && first.n <= second.n && first.groups == second.groups && first.used().iter().zip(second.used()).all(task)
+}
+
+fn no_pair_is_easier(a: &Lock, b: &Lock) -> bool {
+    (a.n > 0) == (b.n > 0) && a.n <= b.n && a.c <= b.c && a.ct <= b.ct
+}
+
+/// What follows from these for the merged pairs, which the bounds read.
+fn no_merged_pair_is_easier(first: &Table, second: &Table) -> bool {
+    let (ours, theirs) = (first.columns(), second.columns());
+    ours.keys().eq(theirs.keys())
+        && ours.values().zip(theirs.values()).all(|(a, b)| (0..first.n as usize).all(|i| no_pair_is_easier(&a[i], &b[i])))
 }
 
 /// The condition that does not follow from these, as CT may grow by more than C: no C less all CT smaller.
@@ -54,10 +65,10 @@ fn with_run_times(table: &Table, other: &Table) -> Table {
     mixed
 }
 
-/// As the paper has it: processors, n and the first n tasks agree. Alpha is not looked at, since no verdict reads it.
+/// As the paper and request 9/12 have it: processors, n, groups and the first n tasks agree. Alpha is not looked at, since no verdict reads it.
 fn same(one: &Table, other: &Table) -> bool {
     let [one, other] = [one, other].map(Table::without_alpha);
-    (one.m, one.used()) == (other.m, other.used())
+    (one.m, one.groups, one.used()) == (other.m, other.groups, other.used())
 }
 
 /// Two tables, and what is said of each task of the first: there, and in the second. The rounds are not limited: the first may take more of them, so
@@ -70,7 +81,8 @@ struct Pair {
 
 impl Pair {
     fn new(first: Table, second: Table, by: By) -> Pair {
-        let each = |i| (iterate(&first, i, by, UNLIMITED), iterate(&second, i, by, UNLIMITED));
+        let merged = [&first, &second].map(Table::merged);
+        let each = |i| merged.each_ref().map(|merged| iterate(merged, i, by, UNLIMITED)).into();
         let said = (0..first.n as usize).map(each).collect();
         Pair { first, second, said }
     }
@@ -100,6 +112,7 @@ type Outcome = (&'static str, fn(&Pair) -> bool);
 
 const LARGER: Outcome = ("a bound is larger", |pair| pair.has(|first, second| meets(second) && first.bound() < second.bound()));
 const MISSED: Outcome = ("a bound became a miss", |pair| pair.has(|first, second| meets(first) && !meets(second)));
+const BY_GROUPS: Outcome = ("a bound is larger, with groups", |pair| pair.first.has_groups() && (LARGER.1)(pair));
 const FEWER_ROUNDS: Outcome =
     ("a bound takes fewer rounds", |pair| pair.has(|first, second| meets(first) && meets(second) && first.rounds > second.rounds));
 const SMALLER: Outcome = ("a bound is smaller", |pair| pair.has(|first, second| meets(first) && first.bound() > second.bound()));
@@ -140,7 +153,7 @@ const HARDER: Kind = Kind {
     made: generate::harder,
     related: is_harder,
     by: By::Capped,
-    wanted: &[LARGER, MISSED, FEWER_ROUNDS],
+    wanted: &[LARGER, BY_GROUPS, MISSED, FEWER_ROUNDS],
 };
 
 const LONGER: Kind = Kind {
@@ -150,7 +163,7 @@ const LONGER: Kind = Kind {
     made: generate::longer,
     related: is_longer,
     by: By::Capped,
-    wanted: &[LARGER, MISSED, FEWER_ROUNDS, HELD_SO_MUCH],
+    wanted: &[LARGER, BY_GROUPS, MISSED, FEWER_ROUNDS, HELD_SO_MUCH],
 };
 
 const BOTH: Kind = Kind {
@@ -160,7 +173,7 @@ const BOTH: Kind = Kind {
     made: generate::no_easier,
     related: is_no_easier,
     by: By::Capped,
-    wanted: &[LARGER, MISSED, FEWER_ROUNDS, BOTH_CHANGES, BOTH_LARGER, NEITHER],
+    wanted: &[LARGER, BY_GROUPS, MISSED, FEWER_ROUNDS, BOTH_CHANGES, BOTH_LARGER, NEITHER],
 };
 
 /// Longer run times but for the condition on C less all CT.
@@ -192,15 +205,16 @@ impl Kind {
         let second = if alphas.one_in(3) { generate::other_alpha(alphas, &made) } else { made };
         assert_eq!([first.check(), second.check()], [Ok(()); 2], "{}: not both accepted\n{}", self.name, shown(&first, &second));
         assert!((self.related)(&first, &second), "{}: not related\n{}", self.name, shown(&first, &second));
+        assert!(no_merged_pair_is_easier(&first, &second), "{}: not so merged\n{}", self.name, shown(&first, &second));
         Pair::new(first, second, self.by)
     }
 
     /// Holds each pair to a law, and counts what comes up.
     fn compare(&self, law: impl Fn(&Pair)) {
         let [tables, changes] = self.seeds;
-        let (mut r, mut alphas, mut tally) = (Random::new(changes), Random::new(25), Tally::new());
+        let (mut r, mut alphas, mut groups, mut tally) = (Random::new(changes), Random::new(25), Random::new(38), Tally::new());
         for first in generate::tables(tables, self.pairs) {
-            let first = generate::some_with_alpha(&mut alphas, first);
+            let first = generate::some_with_groups(&mut groups, generate::some_with_alpha(&mut alphas, first));
             let pair = self.pair(&mut r, &mut alphas, first);
             law(&pair);
             tally.compared += 1;

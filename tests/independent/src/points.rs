@@ -1,11 +1,11 @@
 //! The points of the paper and of the requests, by number. They are held against this program first: else it and the proved one could share
 //! a misreading.
 
-use crate::analysis::{allowed, demand, found, found_by, terms, uncapped, workload, By, Found, Terms, Verdict};
+use crate::analysis::{self, allowed, demand, terms, uncapped, workload, By, Found, Terms, Verdict};
 use crate::listing::Round::{Down, Up};
 use crate::report::{Program, BENCH, REPORT};
 use crate::table::{Lock, Refusal, Table, Task, TIME};
-use crate::{cap, card, cards, cases, easier, edges, falls, listing, no_easier, probe, programs, reads, report, rounds, salvage, salvages, story, wait, waits};
+use crate::{cap, card, cards, cases, easier, edges, falls, groups, listing, no_easier, probe, programs, reads, report, rounds, salvage, salvages, story, wait, waits};
 
 /// Stops the comparison if a point fails.
 pub fn hold() {
@@ -32,12 +32,23 @@ pub fn hold() {
     alphas();
     waiting();
     waits::hold();
+    grouped();
+    groups::hold();
     probe::hold();
     println!("the points of the paper and of the requests hold in this program");
 }
 
 fn table(text: &str) -> Table {
     listing::read(text.as_bytes()).expect("an accepted listing")
+}
+
+/// What is said of the task at `i` (from 0) of a checked table.
+fn found(table: &Table, i: usize) -> Found {
+    analysis::found(&table.merged(), i)
+}
+
+fn found_by(table: &Table, i: usize, by: By) -> Found {
+    analysis::found_by(&table.merged(), i, by)
 }
 
 /// Case A with another deadline of task 3.
@@ -60,7 +71,7 @@ fn case_a() {
         assert_eq!(found_by(&with_deadline("14.5"), 2, by), Found::meets(14_500, 6));
         assert_eq!(found_by(&with_deadline("14.499"), 2, by), Found::misses(5));
         for pair in lengths.windows(2) {
-            assert_eq!(demand(&with_deadline("30"), 2, pair[0], by), pair[1]);
+            assert_eq!(demand(&with_deadline("30").merged(), 2, pair[0], by), pair[1]);
         }
     }
 }
@@ -115,7 +126,7 @@ fn refusals() {
 fn thirds() {
     let table = table(cases::THIRDS);
     let Verdict::Meets(bound) = found(&table, 3).verdict else { panic!("task 4 misses") };
-    let Terms { db, s, o, f, l } = terms(&table, 3, bound, workload);
+    let Terms { db, s, o, f, l } = terms(&table.merged(), 3, bound, workload);
     assert_eq!((table.m, db, s, o, f, l), (3, 6, 1, 1, 1, 1));
     assert_eq!(bound, table.tasks[3].c + db + s + 1);
 }
@@ -215,11 +226,11 @@ fn rounded() {
 /// The longest listing: every field at its longest, and every total at its most. And the longest text that is written of a table.
 fn longest() {
     let text = cases::longest();
-    assert_eq!(text.len(), 22_250);
+    assert_eq!(text.len(), 22_506);
     let lock = Lock { n: 1_000, c: 1, ct: 1_000 };
     let task = Task { t: TIME, c: 16_000, d: TIME, alpha: 64, locks: [lock; 16] };
-    assert_eq!(table(&text), Table { m: 4, n: 32, tasks: [task; 32] });
-    assert_eq!(listing::write(&probe::longest()).len(), 15_944);
+    assert_eq!(table(&text), Table { m: 4, n: 32, groups: [16; 16], tasks: [task; 32] });
+    assert_eq!(listing::write(&probe::longest()).len(), 16_127);
 }
 
 /// Request 2/12: the blocks of case A, and RFC 1071's own example of a sum.
@@ -285,7 +296,7 @@ fn salvaged() {
 
 /// What is said of the task at `i` under each of these allowances.
 fn under<const N: usize>(table: &Table, i: usize, allowances: [u64; N]) -> [Found; N] {
-    allowances.map(|allowance| allowed(table, i, found(table, i), allowance))
+    allowances.map(|allowance| allowed(&table.merged(), i, found(table, i), allowance))
 }
 
 /// Request 6/12: rounds and allowances.
@@ -374,6 +385,8 @@ fn each_condition() {
         ("C less all CT", "1 1 0.5 0.5", "1 2 0.5 0.501"),
         ("pairs in use", "20 4 15\n", "20 4.5 15\nuse 2 1 0.5 0.5\n"),
         ("tasks", task_3, ""),
+        ("groups", "cpus 2\n", "cpus 2\ngroup 1 1\n"),
+        ("groups of resources that nobody uses", "cpus 2\n", "cpus 2\ngroup 1 9\n"),
     ];
     for (what, figures, others) in broken {
         assert!(cases::CASE_A.contains(figures), "{figures} is not in case A");
@@ -442,4 +455,51 @@ fn waiting() {
     assert_eq!(report::texts(cases::WAITING.as_bytes(), both), [reported, benched.clone()]);
     let reported = printed([" wait_us", " -", " -", " -"]);
     assert_eq!(report::texts(cases::without_alpha(cases::WAITING).as_bytes(), both), [reported, benched]);
+}
+
+/// Request 9/12: where groups stand in a listing and in a table, what is refused, and what is written of them.
+fn grouped() {
+    for (text, refusal) in cases::groups() {
+        assert_eq!(listing::read(text.as_bytes()).err(), refusal, "{text}");
+    }
+    for (name, table, refusal) in edges::groups() {
+        assert_eq!(table.check().err(), refusal, "{name}");
+    }
+    let text = "cpus 2\ngroup 16 2\ngroup 3 16\ntask 10 5 10\nuse 2 1 1 1\n";
+    let read = table(text);
+    assert_eq!((read.groups[1], read.groups[15], read.groups.iter().sum()), (16, 3, 19));
+    assert_eq!(table(cases::CASE_A).groups, [0; 16]);
+    assert_eq!(report::text(b"cpus 2\ngroup 1 1\ngroup 2 1\n", Program::Report), "refused 19 line 3\n");
+    assert_eq!(report::text(b"cpus 2\ngroup 1 1\ngroup 2 2\n", Program::Bench), "refused 9 line 2\n");
+    // they are written after `cpus`, those of resources that nobody uses too; and tables that differ in one are not the same
+    assert_eq!(listing::write(&read), text);
+    assert_eq!(listing::write(&table(&text.replace("group 16 2", "group 0016 002"))), text);
+    assert_eq!(read.without_groups(), table(&cases::without_groups(text)));
+    for other in ["group 16 2\n", "group 15 2\ngroup 3 16\n", "group 16 1\ngroup 3 16\n", "group 16 2\ngroup 3 15\n", ""] {
+        assert_ne!(read, table(&text.replace("group 16 2\ngroup 3 16\n", other)), "{other}");
+    }
+    not_on_a_card(text);
+    held_in_one_go();
+}
+
+/// A card of version 1 has no groups: a table with one is refused, be its resource used or not, and what is read of a card has none.
+fn not_on_a_card(text: &str) {
+    assert_eq!(programs::archive(text.as_bytes()), Err("refused 20 line 0\n".into()));
+    let of_nobody = cases::with_lines(cases::CASE_A, "group 1 9\n");
+    assert_eq!(programs::archive(of_nobody.as_bytes()), Err("refused 20 line 0\n".into()));
+    assert_eq!(programs::archive(b"cpus 2\ngroup 1 1\ngroup 1 1\n"), Err("refused 19 line 3\n".into()));
+    assert_eq!(programs::archive(b"cpus 2\ngroup 1 1\n"), Err("refused 9 line 2\n".into()));
+    let table = table(&of_nobody);
+    assert_eq!(card::archived(&table), Err((20, 0)));
+    assert_eq!(card::archived(&Table { m: 0, ..table.clone() }), Err((4, 0)));
+    let without = table.without_groups();
+    let written = card::archived(&without);
+    assert_eq!(written.as_deref().map(card::read), Ok(Ok(without)));
+}
+
+/// What a group presumes, by the bounds of the listing that breaks it in the simulation.
+fn held_in_one_go() {
+    let meets = |bounds: [u64; 2]| bounds.map(Verdict::Meets);
+    assert_eq!(verdicts(cases::OVERLAPPING), meets([3_000, 6_000]));
+    assert_eq!(verdicts(cases::OVERLAPPING_TYPED), meets([4_000, 6_000]));
 }

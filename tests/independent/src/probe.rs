@@ -99,7 +99,7 @@ impl Handed {
             (Err(refusal), _) => refused(*refusal),
             (_, None) => refused((10, 0)),
             _ if allowance == 0 => refused((16, 0)),
-            (_, Some(found)) => said(analysis::allowed(&self.table, task as usize - 1, found, allowance as u64)),
+            (_, Some(found)) => said(analysis::allowed(&self.table.merged(), task as usize - 1, found, allowance as u64)),
         }
     }
 
@@ -110,8 +110,9 @@ impl Handed {
             Ok(_) if allowance == 0 => refused((16, 0)),
             Ok(found) if (room as usize) < found.len() => refused((11, 0)),
             Ok(found) => {
+                let merged = self.table.merged();
                 for (i, (line, found)) in lines.iter_mut().zip(found).enumerate() {
-                    *line = format!("{} {}", i + 1, said(analysis::allowed(&self.table, i, *found, allowance as u64)));
+                    *line = format!("{} {}", i + 1, said(analysis::allowed(&merged, i, *found, allowance as u64)));
                 }
                 "fine\n".into()
             }
@@ -123,7 +124,7 @@ impl Handed {
         match (&self.found, self.task(task)) {
             (Err(refusal), _) => refused(*refusal),
             (_, None) => refused((10, 0)),
-            _ => wait::wait(&self.table, task as usize - 1).map_or("no alpha\n".into(), |us| format!("wait {us}\n")),
+            _ => wait::wait(&self.table.merged(), task as usize - 1).map_or("no alpha\n".into(), |us| format!("wait {us}\n")),
         }
     }
 
@@ -281,7 +282,7 @@ impl Call {
     /// The same, counted by whether the allowance breaks off rounds that climb alike.
     fn bound_among(handed: &Handed, task: u32, allowance: u32) -> Call {
         let call = Call::bound(handed, task, allowance);
-        let among = strides::breaks(&handed.table, task as usize - 1, allowance as u64).contains(strides::ALLOWANCE);
+        let among = strides::breaks(&handed.table.merged(), task as usize - 1, allowance as u64).contains(strides::ALLOWANCE);
         Call { outcome: if among { format!("bound: {}", strides::ALLOWANCE) } else { call.outcome }, ..call }
     }
 
@@ -457,7 +458,7 @@ pub fn readings(program: &str) -> bool {
     }
     tally.print(&format!("readings: {} compared", tally.compared));
     // 1 needs a longer listing than fits in a request
-    let mut wanted: Vec<String> = (2..=9).chain([17, 18]).map(|k| format!("read: refused {k:>2}")).collect();
+    let mut wanted: Vec<String> = (2..=9).chain([17, 18, 19]).map(|k| format!("read: refused {k:>2}")).collect();
     wanted.push("read: fine".into());
     tally.covers(&wanted)
 }
@@ -650,11 +651,11 @@ pub fn salvages(program: &str) -> bool {
     tally.covers(&wanted) && fates.covers(&salvages::all_fates())
 }
 
-/// No accepted table has a longer text: every pair in use, each number as long as it can be written. Of 16 totals that a run time of
+/// No accepted table has a longer text: every pair in use, every resource in a group, each number as long as it can be written. Of 16 totals that a run time of
 /// 9999.999 ms holds, nine at most have four digits before the point.
 pub fn longest() -> Table {
     let mut table = Table::zero();
-    (table.m, table.n) = (64, 32);
+    (table.m, table.n, table.groups) = (64, 32, [16; 16]);
     for task in &mut table.tasks {
         (task.t, task.c, task.d, task.alpha) = (9_999_999, 9_999_999, 9_999_999, 64);
         for (k, lock) in task.locks.iter_mut().enumerate() {

@@ -3,31 +3,32 @@
 
 use crate::analysis::{iterate, By, Found, UNLIMITED};
 use crate::compare::Tally;
+use crate::merge::Merged;
 use crate::random::Random;
-use crate::table::{Table, Task, LOCKS, TIME};
+use crate::table::{Table, Task, TIME};
 use crate::{generate, listing};
 
 const TABLES: u64 = 1_500;
 
 /// Whether the bound of the task at `i` (from 0) reads the task at `l`: of i ≤ m the higher tasks that share a lock with it; of i > m all higher tasks, and
-/// those below that use a lock whose ceiling is above i.
-fn reads(table: &Table, i: usize, l: usize) -> bool {
-    let uses = |task: usize, k: usize| table.tasks[task].locks[k].n > 0;
-    let past_processors = i as u64 >= table.m;
-    let shares = || (0..LOCKS).any(|k| uses(i, k) && uses(l, k));
-    let lifted = || (0..LOCKS).any(|k| uses(l, k) && (0..i).any(|higher| uses(higher, k)));
+/// those below that use a lock whose ceiling is above i. A group is one lock.
+fn reads(merged: &Merged, i: usize, l: usize) -> bool {
+    let past_processors = i as u64 >= merged.table.m;
+    let shares = || merged.used_by(i).any(|column| column[l].n > 0);
+    let lifted = || merged.used_by(l).any(|column| column[..i].iter().any(|higher| higher.n > 0));
     if l < i { past_processors || shares() } else { past_processors && l > i && lifted() }
 }
 
 /// Stops the comparison if a verdict or its rounds change with what is not read. That they can change is seen too, with what is read.
 pub fn hold() {
-    let (mut r, mut alphas, mut tally) = (Random::new(21), Random::new(26), Tally::new());
+    let (mut r, mut alphas, mut groups, mut tally) = (Random::new(21), Random::new(26), Random::new(39), Tally::new());
     for table in generate::tables(20, TABLES) {
-        let table = generate::some_with_alpha(&mut alphas, table);
+        let table = generate::some_with_groups(&mut groups, generate::some_with_alpha(&mut alphas, table));
+        let merged = table.merged();
         let with_other_alpha = generate::other_alpha(&mut alphas, &table);
         tally.compared += 1;
         for i in 0..table.n as usize {
-            let (read, not_read): (Vec<usize>, Vec<usize>) = (0..table.n as usize).filter(|&l| l != i).partition(|&l| reads(&table, i, l));
+            let (read, not_read): (Vec<usize>, Vec<usize>) = (0..table.n as usize).filter(|&l| l != i).partition(|&l| reads(&merged, i, l));
             let below: Vec<usize> = (i + 1..table.n as usize).collect();
             unchanged(&mut tally, "other times where not read", &table, i, &with(&mut r, &table, &not_read, other_times));
             unchanged(&mut tally, "other run times below", &table, i, &with(&mut r, &table, &below, other_run));
@@ -50,7 +51,7 @@ fn unchanged(tally: &mut Tally, what: &str, table: &Table, i: usize, other: &Tab
 }
 
 fn found(table: &Table, i: usize) -> Found {
-    iterate(table, i, By::Capped, UNLIMITED)
+    iterate(&table.merged(), i, By::Capped, UNLIMITED)
 }
 
 /// The table with some of its tasks changed. It is accepted again.

@@ -58,7 +58,8 @@ pub fn verdicts(table: &Table, allowance: u64) -> String {
 
 /// What is found under an allowance, of what was found without one.
 fn under(table: &Table, found: &[Found], allowance: u64) -> Vec<Found> {
-    found.iter().enumerate().map(|(i, found)| analysis::allowed(table, i, *found, allowance)).collect()
+    let merged = table.merged();
+    found.iter().enumerate().map(|(i, found)| analysis::allowed(&merged, i, *found, allowance)).collect()
 }
 
 pub fn refused((number, place): Refusal) -> String {

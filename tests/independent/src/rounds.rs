@@ -1,6 +1,7 @@
 //! Request 6/12, by number: the laws of the rounds and of an allowance of them, and wrong programs, each with a listing that tells it apart.
 
 use crate::analysis::{demand, iterate, quick, replaced, terms, workload, By, Found, Verdict, UNLIMITED};
+use crate::merge::Merged;
 use crate::report::{self, BENCH, REPORT};
 use crate::table::{Table, Task};
 use crate::{cases, generate, listing};
@@ -20,9 +21,10 @@ pub fn hold() {
 fn laws() {
     let mut all_there_can_be = 0;
     for table in generate::tables(11, TABLES) {
+        let merged = table.merged();
         for (i, task) in table.used().iter().enumerate() {
-            let rounds = counted(&table, i);
-            under_allowances(&table, i, rounds);
+            let rounds = counted(&merged, i);
+            under_allowances(&merged, i, rounds);
             all_there_can_be += (rounds > 1 && rounds == task.d - task.c + 1) as u64;
         }
     }
@@ -31,27 +33,27 @@ fn laws() {
 
 /// The rounds of a task: at most D - C + 1, and as many as the definition counts by the paper's terms. Its lengths go from C on, each the demand
 /// at the one before, to the first that repeats that or passes D.
-fn counted(table: &Table, i: usize) -> u64 {
-    let task = &table.tasks[i];
-    let rounds = iterate(table, i, By::Capped, UNLIMITED).rounds;
-    assert!(rounds <= task.d - task.c + 1, "more rounds than lengths: task {} of\n{}", i + 1, listing::write(table));
+fn counted(merged: &Merged, i: usize) -> u64 {
+    let task = &merged.tasks()[i];
+    let rounds = iterate(merged, i, By::Capped, UNLIMITED).rounds;
+    assert!(rounds <= task.d - task.c + 1, "more rounds than lengths: task {} of\n{}", i + 1, listing::write(merged.table));
     if rounds <= FEW {
-        let lengths = || std::iter::successors(Some(task.c), |&t| Some(demand(table, i, t, By::Capped)));
+        let lengths = || std::iter::successors(Some(task.c), |&t| Some(demand(merged, i, t, By::Capped)));
         let before_last = lengths().zip(lengths().skip(1)).position(|(t, f)| f == t || f > task.d);
-        assert_eq!(before_last, Some(rounds as usize - 1), "not the count of the definition: task {} of\n{}", i + 1, listing::write(table));
+        assert_eq!(before_last, Some(rounds as usize - 1), "not the count of the definition: task {} of\n{}", i + 1, listing::write(merged.table));
     }
     rounds
 }
 
 /// A task is open exactly if it takes more rounds than are allowed, and then they are those that are allowed. What is not open stays, with its
 /// rounds, under every larger allowance.
-fn under_allowances(table: &Table, i: usize, rounds: u64) {
+fn under_allowances(merged: &Merged, i: usize, rounds: u64) {
     let few = if rounds <= FEW { (1..=rounds + 2).collect() } else { vec![1, 2, BENCH, rounds / 2, rounds - 1, rounds, rounds + 1] };
     let rising = [few, vec![REPORT, REPORT + 1, UNLIMITED]].concat();
     let mut decided = None;
     for allowance in rising {
-        let found = iterate(table, i, By::Capped, allowance);
-        let at = || format!("an allowance of {allowance}: task {} of\n{}", i + 1, listing::write(table));
+        let found = iterate(merged, i, By::Capped, allowance);
+        let at = || format!("an allowance of {allowance}: task {} of\n{}", i + 1, listing::write(merged.table));
         assert_eq!(found.verdict == Verdict::Open, rounds > allowance, "{}", at());
         assert_eq!(found.rounds, rounds.min(allowance), "{}", at());
         if found.verdict != Verdict::Open {
@@ -145,9 +147,10 @@ fn past_d_too(table: &Table, allowance: u64) -> Vec<Found> {
 }
 
 fn from_db(table: &Table, allowance: u64) -> Vec<Found> {
+    let merged = table.merged();
     let found = |(i, task): (usize, &Task)| {
-        let db = terms(table, i, task.c, workload).db;
-        replaced(task.c + db, task.d, allowance, |t| demand(table, i, t, By::Capped))
+        let db = terms(&merged, i, task.c, workload).db;
+        replaced(task.c + db, task.d, allowance, |t| demand(&merged, i, t, By::Capped))
     };
     table.used().iter().enumerate().map(found).collect()
 }
@@ -176,5 +179,6 @@ fn out_is_a_miss(table: &Table, allowance: u64) -> Vec<Found> {
 
 /// The length that it has come to.
 fn out_is_a_bound(table: &Table, allowance: u64) -> Vec<Found> {
-    run_out(table, allowance, |i| Verdict::Meets((0..allowance).fold(table.tasks[i].c, |t, _| demand(table, i, t, By::Capped))))
+    let merged = table.merged();
+    run_out(table, allowance, |i| Verdict::Meets((0..allowance).fold(table.tasks[i].c, |t, _| demand(&merged, i, t, By::Capped))))
 }

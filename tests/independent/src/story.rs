@@ -16,7 +16,7 @@ fn text(tasks: &Tasks) -> String {
 /// The verdict on a task (from 0) by the paper's workload, and by the new one.
 fn verdicts(text: &str, i: usize) -> [Verdict; 2] {
     let table = listing::read(text.as_bytes()).expect("an accepted listing");
-    [By::Uncapped, By::Capped].map(|by| iterate(&table, i, by, UNLIMITED).verdict)
+    [By::Uncapped, By::Capped].map(|by| iterate(&table.merged(), i, by, UNLIMITED).verdict)
 }
 
 /// By the paper's workload the task goes from meets to misses; by the new one it meets in both, and its bound does not grow.

@@ -5,7 +5,8 @@
 use std::collections::BTreeSet;
 
 use crate::analysis::{By, Reduced};
-use crate::table::Table;
+use crate::merge::Merged;
+use crate::table::Task;
 
 /// How many rounds in a row must have climbed alike for a break to count.
 const ALIKE: u64 = 4;
@@ -19,10 +20,10 @@ pub const DEADLINE: &str = "a deadline among rounds that climb alike";
 pub const ALLOWANCE: &str = "an allowance among rounds that climb alike";
 
 /// What breaks off the rounds that climb alike of the task at `i` (from 0) of a checked table, under an allowance.
-pub fn breaks(table: &Table, i: usize, allowance: u64) -> BTreeSet<&'static str> {
-    let reduced = Reduced::new(table, i, By::Capped);
-    let d = table.tasks[i].d;
-    let (mut t, mut climb, mut alike) = (table.tasks[i].c, 0, 0);
+pub fn breaks(merged: &Merged, i: usize, allowance: u64) -> BTreeSet<&'static str> {
+    let reduced = Reduced::new(merged, i, By::Capped);
+    let Task { c, d, .. } = merged.tasks()[i];
+    let (mut t, mut climb, mut alike) = (c, 0, 0);
     let mut all = BTreeSet::new();
     for round in 1..=allowance {
         let next = reduced.demand(t);

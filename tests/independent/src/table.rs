@@ -1,4 +1,5 @@
-//! A task table, and the check of a table that is handed over directly. Written from the paper's section 'Refusals by number' and request 8/12.
+//! A task table, and the check of a table that is handed over directly. Written from the paper's section 'Refusals by number' and requests
+//! 8/12 and 9/12.
 
 pub const CPUS: u64 = 64;
 pub const TASKS: usize = 32;
@@ -6,6 +7,7 @@ pub const LOCKS: usize = 16;
 pub const TIME: u64 = 10_000_000;
 pub const COUNT: u64 = 1_000;
 pub const ALPHA: u64 = 64;
+pub const GROUPS: u32 = 16;
 pub const BYTES: usize = 65_536;
 
 #[derive(Clone, Copy, Default, PartialEq, Eq, Debug)]
@@ -30,6 +32,8 @@ pub struct Task {
 pub struct Table {
     pub m: u64,
     pub n: u64,
+    /// The group of each resource, 0 for none.
+    pub groups: [u32; LOCKS],
     pub tasks: [Task; TASKS],
 }
 
@@ -38,7 +42,7 @@ pub type Refusal = (u32, u32);
 
 impl Table {
     pub fn zero() -> Table {
-        Table { m: 0, n: 0, tasks: [Task::default(); TASKS] }
+        Table { m: 0, n: 0, groups: [0; LOCKS], tasks: [Task::default(); TASKS] }
     }
 
     /// The tasks in use, of a table that was checked.
@@ -53,6 +57,16 @@ impl Table {
         table
     }
 
+    /// Whether some resource has a group, be it used or not.
+    pub fn has_groups(&self) -> bool {
+        self.groups != [0; LOCKS]
+    }
+
+    /// The same table with no resource in a group.
+    pub fn without_groups(&self) -> Table {
+        Table { groups: [0; LOCKS], ..self.clone() }
+    }
+
     pub fn check(&self) -> Result<(), Refusal> {
         if self.n == 0 {
             return Err((9, 0));
@@ -61,6 +75,9 @@ impl Table {
             return Err((8, 0));
         }
         if !(1..=CPUS).contains(&self.m) {
+            return Err((4, 0));
+        }
+        if self.groups.iter().any(|&group| group > GROUPS) {
             return Err((4, 0));
         }
         let (with, without): (Vec<&Task>, Vec<&Task>) = self.used().iter().partition(|task| task.alpha > 0);

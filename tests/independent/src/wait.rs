@@ -1,26 +1,26 @@
-//! How long a task may wait for lower ones by P-PCP, as far as request 8/12 wants it: equations 13 and 14.
+//! How long a task may wait for lower ones by P-PCP, as far as request 8/12 wants it: equations 13 and 14. Since request 9/12 a group is one resource here.
 
-use crate::table::{Table, LOCKS};
+use crate::merge::Merged;
+use crate::table::Table;
 
 /// The wait of the task at `i` (from 0) of a checked table; none if there is no alpha.
-pub fn wait(table: &Table, i: usize) -> Option<u64> {
-    let me = &table.tasks[i];
-    if me.alpha == 0 {
-        return None;
-    }
-    let in_use = (0..LOCKS).filter(|&k| me.locks[k].n > 0);
-    Some(in_use.map(|k| me.locks[k].n * sum_of_largest(below(table, i, k), me.alpha)).sum())
+pub fn wait(merged: &Merged, i: usize) -> Option<u64> {
+    let alpha = merged.tasks()[i].alpha;
+    let requests = |k: usize| merged.columns[k][i].n;
+    let in_use = (0..merged.columns.len()).filter(|&k| requests(k) > 0);
+    (alpha > 0).then(|| in_use.map(|k| requests(k) * sum_of_largest(below(merged, i, k), alpha)).sum())
 }
 
 /// The waits of all tasks.
 pub fn all(table: &Table) -> Vec<Option<u64>> {
-    (0..table.n as usize).map(|i| wait(table, i)).collect()
+    let merged = table.merged();
+    (0..table.n as usize).map(|i| wait(&merged, i)).collect()
 }
 
-/// The c of all tasks below the one at `i` on all resources but the one at `k`, both from 0: one for each pair in use.
-pub fn below(table: &Table, i: usize, k: usize) -> Vec<u64> {
-    let pairs = table.used()[i + 1..].iter().flat_map(|task| task.locks.iter().enumerate());
-    pairs.filter(|(other, lock)| *other != k && lock.n > 0).map(|(_, lock)| lock.c).collect()
+/// The c of all tasks below the one at `i` (from 0) in all columns but the one at `k`: one for each merged pair in use.
+pub fn below(merged: &Merged, i: usize, k: usize) -> Vec<u64> {
+    let others = merged.columns.iter().enumerate().filter(|(other, _)| *other != k);
+    others.flat_map(|(_, column)| &column[i + 1..]).filter(|lock| lock.n > 0).map(|lock| lock.c).collect()
 }
 
 /// The sum of so many of these, the largest; of all, if they are fewer.

@@ -3,9 +3,10 @@
 
 use std::collections::BTreeSet;
 
+use crate::merge::Merged;
 use crate::random::Random;
-use crate::table::{Lock, Table, ALPHA, LOCKS, TIME};
-use crate::{cases, generate, listing, wait};
+use crate::table::{Lock, Table, ALPHA, TIME};
+use crate::{cases, generate, groups, listing, wait};
 
 /// How many tables of each kind are made for the laws.
 const TABLES: u64 = 300;
@@ -17,6 +18,7 @@ pub fn hold() {
     let mut r = Random::new(27);
     let mut tables: Vec<Table> = generate::tables(28, TABLES).map(|table| generate::with_alpha(&mut r, table)).collect();
     tables.extend((0..TABLES).map(|_| generate::many_pairs(&mut r)));
+    tables.extend(groups::tables(37, TABLES).filter(|table| table.tasks[0].alpha > 0));
     for table in &tables {
         assert_eq!(listing::read(listing::write(table).as_bytes()).as_ref(), Ok(table), "not read back");
     }
@@ -29,14 +31,15 @@ pub fn hold() {
 /// requests and alpha. Says how often every choice of lower values was tried.
 fn laws(r: &mut Random, table: &Table) -> u64 {
     let waits = wait::all(table);
+    let merged = &table.merged();
     let at = |i: usize| format!("task {} of\n{}", i + 1, listing::write(table));
     let mut tried = 0;
     for (i, task) in table.used().iter().enumerate() {
         let lowest = i + 1 == table.used().len();
-        let no_locks = in_use(table, i).next().is_none();
+        let no_locks = in_use(merged, i).next().is_none();
         assert!(!(lowest || no_locks) || waits[i] == Some(0), "a wait for nobody, or for nothing: {}", at(i));
         assert!(task.alpha == ALPHA || waits[i] <= with(table, i, task.alpha + 1), "a larger alpha and a shorter wait: {}", at(i));
-        for values in in_use(table, i).map(|k| wait::below(table, i, k)) {
+        for values in in_use(merged, i).map(|k| wait::below(merged, i, k)) {
             let sum = wait::sum_of_largest(values.clone(), task.alpha);
             assert_eq!(sum, one_by_one(values.clone(), task.alpha), "not the largest: {}", at(i));
             if values.len() <= FEW {
@@ -54,7 +57,7 @@ fn laws(r: &mut Random, table: &Table) -> u64 {
 fn with(table: &Table, i: usize, alpha: u64) -> Option<u64> {
     let mut other = table.clone();
     other.tasks[i].alpha = alpha;
-    wait::wait(&other, i)
+    wait::wait(&other.merged(), i)
 }
 
 /// The largest value taken out so many times.
@@ -98,13 +101,13 @@ const AS_MANY: &str = "as many lower values count as there are";
 const ALL: &str = "fewer lower values than alpha";
 
 /// What comes up in the wait of the task at `i` (from 0) of a checked table.
-pub fn kinds(table: &Table, i: usize) -> BTreeSet<&'static str> {
-    let Some(wait) = wait::wait(table, i) else { return BTreeSet::from([NO_ALPHA]) };
+pub fn kinds(merged: &Merged, i: usize) -> BTreeSet<&'static str> {
+    let Some(wait) = wait::wait(merged, i) else { return BTreeSet::from([NO_ALPHA]) };
     let mut kinds = BTreeSet::from([if wait == 0 { NONE } else { SOME }]);
     kinds.extend((wait > u32::MAX as u64).then_some(LONG));
-    let alpha = table.tasks[i].alpha as usize;
-    for k in in_use(table, i) {
-        let mut values = wait::below(table, i, k);
+    let alpha = merged.tasks()[i].alpha as usize;
+    for k in in_use(merged, i) {
+        let mut values = wait::below(merged, i, k);
         values.sort_by(|a, b| b.cmp(a));
         let count = values.len();
         kinds.extend((count > alpha).then_some(FEWER));
@@ -117,7 +120,7 @@ pub fn kinds(table: &Table, i: usize) -> BTreeSet<&'static str> {
 
 pub const KINDS: [&str; 8] = [NO_ALPHA, NONE, SOME, LONG, FEWER, EQUAL, AS_MANY, ALL];
 
-/// A pair in use: its task and its resource, both from 0, and its figures.
+/// A merged pair in use: its task and its column, both from 0, and its figures.
 #[derive(Clone, Copy)]
 struct Pair {
     task: usize,
@@ -125,13 +128,13 @@ struct Pair {
     lock: Lock,
 }
 
-fn pairs(table: &Table) -> Vec<Pair> {
-    let of_task = |task: usize| (0..LOCKS).map(move |k| Pair { task, k, lock: table.tasks[task].locks[k] });
-    (0..table.used().len()).flat_map(of_task).filter(|pair| pair.lock.n > 0).collect()
+fn pairs(merged: &Merged) -> Vec<Pair> {
+    let of_task = |task: usize| merged.columns.iter().enumerate().map(move |(k, column)| Pair { task, k, lock: column[task] });
+    (0..merged.tasks().len()).flat_map(of_task).filter(|pair| pair.lock.n > 0).collect()
 }
 
 /// What some program takes the wait of the task at `i` (from 0) to be.
-type Wait = fn(&Table, usize) -> u64;
+type Wait = fn(&Merged, usize) -> u64;
 
 /// Wrong programs, with what they print of three tasks in place of 12,100, 9,300 and 0.
 const WRONG: &[(&str, Wait, [u64; 3])] = &[
@@ -157,18 +160,19 @@ const WRONG: &[(&str, Wait, [u64; 3])] = &[
 
 fn told_apart() {
     let table = listing::read(cases::EQUAL_VALUES.as_bytes()).expect("an accepted listing");
+    let merged = table.merged();
     let right = wait::all(&table).into_iter().flatten().collect::<Vec<_>>();
     assert_eq!(right, [12_100, 9_300, 0]);
     for (name, wrong, printed) in WRONG {
-        assert_eq!([0, 1, 2].map(|i| wrong(&table, i)), *printed, "{name}");
+        assert_eq!([0, 1, 2].map(|i| wrong(&merged, i)), *printed, "{name}");
         assert_ne!(right, printed, "{name}");
     }
     let longest = listing::read(cases::longest_wait().as_bytes()).expect("an accepted listing");
-    assert_eq!(wait::wait(&longest, 0), Some(15_000 * 310_000_000));
+    assert_eq!(wait::wait(&longest.merged(), 0), Some(15_000 * 310_000_000));
 }
 
-fn alpha(table: &Table, i: usize) -> usize {
-    table.tasks[i].alpha as usize
+fn alpha(merged: &Merged, i: usize) -> usize {
+    merged.tasks()[i].alpha as usize
 }
 
 /// The pairs with the largest c.
@@ -182,74 +186,73 @@ fn sum(all: Vec<Pair>) -> u64 {
     all.iter().map(|pair| pair.lock.c).sum()
 }
 
-/// The resources that the task at `i` uses.
-fn in_use(table: &Table, i: usize) -> impl Iterator<Item = usize> + '_ {
-    (0..LOCKS).filter(move |&k| table.tasks[i].locks[k].n > 0)
+/// The columns that the task at `i` uses.
+fn in_use<'a>(merged: &'a Merged, i: usize) -> impl Iterator<Item = usize> + 'a {
+    (0..merged.columns.len()).filter(move |&k| merged.columns[k][i].n > 0)
 }
 
 /// The wait if this is added for each request of a resource that the task uses.
-fn for_each(table: &Table, i: usize, added: impl Fn(usize) -> u64) -> u64 {
-    in_use(table, i).map(|k| table.tasks[i].locks[k].n * added(k)).sum()
+fn for_each(merged: &Merged, i: usize, added: impl Fn(usize) -> u64) -> u64 {
+    in_use(merged, i).map(|k| merged.columns[k][i].n * added(k)).sum()
 }
 
 /// The right pairs for a resource of the task at `i`.
-fn lower(table: &Table, i: usize, k: usize) -> Vec<Pair> {
-    pairs(table).into_iter().filter(|pair| pair.task > i && pair.k != k).collect()
+fn lower(merged: &Merged, i: usize, k: usize) -> Vec<Pair> {
+    pairs(merged).into_iter().filter(|pair| pair.task > i && pair.k != k).collect()
 }
 
 /// The wait if other pairs count, of which the largest are taken.
-fn of_others(table: &Table, i: usize, counts: impl Fn(&Pair, usize) -> bool) -> u64 {
-    for_each(table, i, |k| sum(largest(pairs(table).into_iter().filter(|pair| counts(pair, k)).collect(), alpha(table, i))))
+fn of_others(merged: &Merged, i: usize, counts: impl Fn(&Pair, usize) -> bool) -> u64 {
+    for_each(merged, i, |k| sum(largest(pairs(merged).into_iter().filter(|pair| counts(pair, k)).collect(), alpha(merged, i))))
 }
 
-fn one_more(table: &Table, i: usize) -> u64 {
-    for_each(table, i, |k| sum(largest(lower(table, i, k), alpha(table, i) + 1)))
+fn one_more(merged: &Merged, i: usize) -> u64 {
+    for_each(merged, i, |k| sum(largest(lower(merged, i, k), alpha(merged, i) + 1)))
 }
 
-fn one_less(table: &Table, i: usize) -> u64 {
-    for_each(table, i, |k| sum(largest(lower(table, i, k), alpha(table, i) - 1)))
+fn one_less(merged: &Merged, i: usize) -> u64 {
+    for_each(merged, i, |k| sum(largest(lower(merged, i, k), alpha(merged, i) - 1)))
 }
 
-fn smallest(table: &Table, i: usize) -> u64 {
-    for_each(table, i, |k| {
-        let mut all = lower(table, i, k);
+fn smallest(merged: &Merged, i: usize) -> u64 {
+    for_each(merged, i, |k| {
+        let mut all = lower(merged, i, k);
         all.sort_by_key(|pair| pair.lock.c);
-        all.truncate(alpha(table, i));
+        all.truncate(alpha(merged, i));
         sum(all)
     })
 }
 
-fn first_alpha(table: &Table, i: usize) -> u64 {
-    for_each(table, i, |k| sum(largest(lower(table, i, k), alpha(table, 0))))
+fn first_alpha(merged: &Merged, i: usize) -> u64 {
+    for_each(merged, i, |k| sum(largest(lower(merged, i, k), alpha(merged, 0))))
 }
 
-fn together(table: &Table, i: usize) -> u64 {
-    let me = &table.tasks[i];
-    let of_lock = |k: usize| lower(table, i, k).into_iter().map(move |pair| me.locks[k].n * pair.lock.c);
-    wait::sum_of_largest(in_use(table, i).flat_map(of_lock).collect(), me.alpha)
+fn together(merged: &Merged, i: usize) -> u64 {
+    let of_lock = |k: usize| lower(merged, i, k).into_iter().map(move |pair| merged.columns[k][i].n * pair.lock.c);
+    wait::sum_of_largest(in_use(merged, i).flat_map(of_lock).collect(), merged.tasks()[i].alpha)
 }
 
-fn same_too(table: &Table, i: usize) -> u64 {
-    of_others(table, i, |pair, _| pair.task > i)
+fn same_too(merged: &Merged, i: usize) -> u64 {
+    of_others(merged, i, |pair, _| pair.task > i)
 }
 
-fn same_alone(table: &Table, i: usize) -> u64 {
-    of_others(table, i, |pair, k| pair.task > i && pair.k == k)
+fn same_alone(merged: &Merged, i: usize) -> u64 {
+    of_others(merged, i, |pair, k| pair.task > i && pair.k == k)
 }
 
-fn left_out_after(table: &Table, i: usize) -> u64 {
-    let below = || pairs(table).into_iter().filter(|pair| pair.task > i).collect();
-    for_each(table, i, |k| sum(largest(below(), alpha(table, i)).into_iter().filter(|pair| pair.k != k).collect()))
+fn left_out_after(merged: &Merged, i: usize) -> u64 {
+    let below = || pairs(merged).into_iter().filter(|pair| pair.task > i).collect();
+    for_each(merged, i, |k| sum(largest(below(), alpha(merged, i)).into_iter().filter(|pair| pair.k != k).collect()))
 }
 
-fn none_in_use(table: &Table, i: usize) -> u64 {
-    of_others(table, i, |pair, _| pair.task > i && table.tasks[i].locks[pair.k].n == 0)
+fn none_in_use(merged: &Merged, i: usize) -> u64 {
+    of_others(merged, i, |pair, _| pair.task > i && merged.columns[pair.k][i].n == 0)
 }
 
-fn equal_once(table: &Table, i: usize) -> u64 {
-    for_each(table, i, |k| {
-        let values: BTreeSet<u64> = wait::below(table, i, k).into_iter().collect();
-        wait::sum_of_largest(values.into_iter().collect(), table.tasks[i].alpha)
+fn equal_once(merged: &Merged, i: usize) -> u64 {
+    for_each(merged, i, |k| {
+        let values: BTreeSet<u64> = wait::below(merged, i, k).into_iter().collect();
+        wait::sum_of_largest(values.into_iter().collect(), merged.tasks()[i].alpha)
     })
 }
 
@@ -260,34 +263,34 @@ fn one_of_each(all: Vec<Pair>, kind: impl Fn(&Pair) -> usize) -> Vec<Pair> {
     largest(all, count).into_iter().filter(|pair| seen.insert(kind(pair))).collect()
 }
 
-fn one_of_each_task(table: &Table, i: usize) -> u64 {
-    for_each(table, i, |k| sum(largest(one_of_each(lower(table, i, k), |pair| pair.task), alpha(table, i))))
+fn one_of_each_task(merged: &Merged, i: usize) -> u64 {
+    for_each(merged, i, |k| sum(largest(one_of_each(lower(merged, i, k), |pair| pair.task), alpha(merged, i))))
 }
 
-fn one_of_each_resource(table: &Table, i: usize) -> u64 {
-    for_each(table, i, |k| sum(largest(one_of_each(lower(table, i, k), |pair| pair.k), alpha(table, i))))
+fn one_of_each_resource(merged: &Merged, i: usize) -> u64 {
+    for_each(merged, i, |k| sum(largest(one_of_each(lower(merged, i, k), |pair| pair.k), alpha(merged, i))))
 }
 
-fn itself_too(table: &Table, i: usize) -> u64 {
-    of_others(table, i, |pair, k| pair.task >= i && pair.k != k)
+fn itself_too(merged: &Merged, i: usize) -> u64 {
+    of_others(merged, i, |pair, k| pair.task >= i && pair.k != k)
 }
 
-fn above_too(table: &Table, i: usize) -> u64 {
-    of_others(table, i, |pair, k| pair.task != i && pair.k != k)
+fn above_too(merged: &Merged, i: usize) -> u64 {
+    of_others(merged, i, |pair, k| pair.task != i && pair.k != k)
 }
 
-fn above_alone(table: &Table, i: usize) -> u64 {
-    of_others(table, i, |pair, k| pair.task < i && pair.k != k)
+fn above_alone(merged: &Merged, i: usize) -> u64 {
+    of_others(merged, i, |pair, k| pair.task < i && pair.k != k)
 }
 
-fn totals(table: &Table, i: usize) -> u64 {
-    for_each(table, i, |k| wait::sum_of_largest(lower(table, i, k).iter().map(|pair| pair.lock.ct).collect(), table.tasks[i].alpha))
+fn totals(merged: &Merged, i: usize) -> u64 {
+    for_each(merged, i, |k| wait::sum_of_largest(lower(merged, i, k).iter().map(|pair| pair.lock.ct).collect(), merged.tasks()[i].alpha))
 }
 
-fn once(table: &Table, i: usize) -> u64 {
-    in_use(table, i).map(|k| sum(largest(lower(table, i, k), alpha(table, i)))).sum()
+fn once(merged: &Merged, i: usize) -> u64 {
+    in_use(merged, i).map(|k| sum(largest(lower(merged, i, k), alpha(merged, i)))).sum()
 }
 
-fn past_processors(table: &Table, i: usize) -> u64 {
-    if (i as u64) < table.m { 0 } else { of_others(table, i, |pair, k| pair.task > i && pair.k != k) }
+fn past_processors(merged: &Merged, i: usize) -> u64 {
+    if (i as u64) < merged.table.m { 0 } else { of_others(merged, i, |pair, k| pair.task > i && pair.k != k) }
 }

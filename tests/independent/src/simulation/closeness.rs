@@ -22,7 +22,7 @@ const CLASSES: [&str; 4] = ["i ≤ m, without locks", "i ≤ m, with locks", "i 
 
 /// Where a task's class stands: by its number, and by whether a lock counts in its demand at its bound.
 fn place(System { table, bounds, .. }: &System, task: usize) -> usize {
-    let terms = terms(table, task, bounds[task], workload);
+    let terms = terms(&table.merged(), task, bounds[task], workload);
     let long = task as u64 >= table.m;
     let by_locks = terms.db + terms.s + if long { terms.o + terms.l } else { 0 };
     2 * long as usize + (by_locks > 0) as usize

@@ -5,8 +5,9 @@ use super::printed::Report;
 use super::search::{self, System};
 use super::{systems, Stop};
 use crate::analysis::{self, Terms, UNLIMITED};
+use crate::merge::{Column, Merged};
 use crate::random::Random;
-use crate::table::{Table, LOCKS};
+use crate::table::Table;
 
 const SEED: u64 = 2;
 /// Each is refuted within so many systems, by climbs of so many steps.
@@ -16,17 +17,17 @@ const STEPS: u64 = 150;
 /// What is wrong with it, and its demand for the task at `i` (from 0) by the terms at one length.
 pub struct Wrong {
     pub name: &'static str,
-    demand: fn(&Table, usize, Terms) -> u64,
+    demand: fn(&Merged, usize, Terms) -> u64,
 }
 
 pub const ALL: [Wrong; 8] = [
-    Wrong { name: "no DB", demand: |table, i, terms| Terms { db: 0, ..terms }.demand(table, i) },
-    Wrong { name: "DB once a lock", demand: |table, i, terms| Terms { db: once_a_lock(table, i), ..terms }.demand(table, i) },
+    Wrong { name: "no DB", demand: |merged, i, terms| Terms { db: 0, ..terms }.demand(merged, i) },
+    Wrong { name: "DB once a lock", demand: |merged, i, terms| Terms { db: once_a_lock(merged, i), ..terms }.demand(merged, i) },
     Wrong { name: "S divided by m", demand: s_divided },
-    Wrong { name: "no S", demand: |table, i, terms| Terms { s: 0, ..terms }.demand(table, i) },
-    Wrong { name: "no O", demand: |table, i, terms| Terms { o: 0, ..terms }.demand(table, i) },
-    Wrong { name: "no F", demand: |table, i, terms| Terms { f: 0, ..terms }.demand(table, i) },
-    Wrong { name: "no L", demand: |table, i, terms| Terms { l: 0, ..terms }.demand(table, i) },
+    Wrong { name: "no S", demand: |merged, i, terms| Terms { s: 0, ..terms }.demand(merged, i) },
+    Wrong { name: "no O", demand: |merged, i, terms| Terms { o: 0, ..terms }.demand(merged, i) },
+    Wrong { name: "no F", demand: |merged, i, terms| Terms { f: 0, ..terms }.demand(merged, i) },
+    Wrong { name: "no L", demand: |merged, i, terms| Terms { l: 0, ..terms }.demand(merged, i) },
     Wrong { name: "the short form up to task m + 1", demand: short_up_to_next },
 ];
 
@@ -58,8 +59,9 @@ impl Wrong {
 
     /// The wrong bounds of a table in which all tasks meet: so they do by a demand that is nowhere larger.
     fn bounds(&self, table: &Table) -> Vec<u64> {
+        let merged = table.merged();
         let bound = |i: usize| {
-            let demand = |t| (self.demand)(table, i, analysis::terms(table, i, t, analysis::workload));
+            let demand = |t| (self.demand)(&merged, i, analysis::terms(&merged, i, t, analysis::workload));
             analysis::replaced(table.tasks[i].c, table.tasks[i].d, UNLIMITED, demand).bound()
         };
         (0..table.n as usize).map(bound).collect()
@@ -67,18 +69,18 @@ impl Wrong {
 }
 
 /// The largest request below for each lock of the task, once instead of N times.
-fn once_a_lock(table: &Table, i: usize) -> u64 {
-    let longest_below = |k: usize| table.used()[i + 1..].iter().map(|task| task.locks[k].c).max().unwrap_or(0);
-    (0..LOCKS).filter(|&k| table.tasks[i].locks[k].n > 0).map(longest_below).sum()
+fn once_a_lock(merged: &Merged, i: usize) -> u64 {
+    let longest_below = |column: &Column| column[i + 1..].iter().map(|lock| lock.c).max().unwrap_or(0);
+    merged.used_by(i).map(longest_below).sum()
 }
 
 /// S is in the quotient, with O, F and L where those are.
-fn s_divided(table: &Table, i: usize, Terms { db, s, o, f, l }: Terms) -> u64 {
+fn s_divided(Merged { table, .. }: &Merged, i: usize, Terms { db, s, o, f, l }: Terms) -> u64 {
     let others = if (i as u64) < table.m { 0 } else { o + f + l };
     table.tasks[i].c + db + (s + others).div_ceil(table.m)
 }
 
-fn short_up_to_next(table: &Table, i: usize, terms: Terms) -> u64 {
-    let terms = if i as u64 == table.m { Terms { o: 0, f: 0, l: 0, ..terms } } else { terms };
-    terms.demand(table, i)
+fn short_up_to_next(merged: &Merged, i: usize, terms: Terms) -> u64 {
+    let terms = if i as u64 == merged.table.m { Terms { o: 0, f: 0, l: 0, ..terms } } else { terms };
+    terms.demand(merged, i)
 }
