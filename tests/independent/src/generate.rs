@@ -620,3 +620,14 @@ pub fn raw_alpha(r: &mut Random) -> Table {
     }
     table
 }
+
+/// Any table with groups, mostly with a fault in them: a number above the limit, of a resource in use or of another.
+pub fn raw_groups(r: &mut Random) -> Table {
+    let raw = if r.one_in(2) { table(r) } else { raw_alpha(r) };
+    let mut table = with_groups(r, raw);
+    for _ in 0..*r.pick(&[0, 1, 1, 2]) {
+        let k = r.next() as usize % LOCKS;
+        table.groups[k] = *r.pick(&[0, 1, GROUPS, GROUPS + 1, GROUPS + 1, 32, 255, 256, 256 + GROUPS, 1 << 16, 1 << 31, u32::MAX]);
+    }
+    table
+}

@@ -1,5 +1,5 @@
 //! Tables handed over directly, by way of the program `probe`: the check, one task's bound, rows and outputs of every length, and allowances of
-//! about as many rounds as are taken; one task's wait and those of all. And listings and cards: which table each is read as. And times and counts: what is
+//! about as many rounds as are taken; one task's wait and those of all; the merged pairs. And listings and cards: which table each is read as. And times and counts: what is
 //! written of each, into outputs of every length. And damaged cards: what is saved of each, with lists and outputs of many lengths.
 //! docs/PROBE.md describes its input.
 
@@ -12,13 +12,15 @@ use crate::random::Random;
 use crate::report::Program;
 use crate::salvage::{salvage, Salvaged};
 use crate::table::{Lock, Refusal, Table, TASKS};
-use crate::{card, cards, cases, edges, generate, listing, report, salvages, strides, wait};
+use crate::{card, cards, cases, edges, generate, groups, listing, report, salvages, strides, wait};
 
 const TABLES: u64 = 600;
 const LONG_AMONG_SHORT: u64 = 100;
 const BROKEN_OFF: u64 = 80;
 const RAW_ALPHA: u64 = 150;
 const MANY_PAIRS: u64 = 40;
+const GROUPED: u64 = 90;
+const RAW_GROUPS: u64 = 60;
 const ROWS: usize = 40;
 const OUTPUT: usize = 20_000;
 /// What a request has after its first two words: a table, a time, a count, or a listing or a card of as many bytes at most.
@@ -41,6 +43,7 @@ fn request(entry: u32, argument: u32, bytes: &[u8]) -> Vec<u8> {
 
 fn words(table: &Table) -> Vec<u8> {
     let mut words = vec![table.m as u32, (table.n >> 32) as u32, table.n as u32];
+    words.extend(table.groups);
     for task in &table.tasks {
         words.extend([task.t, task.c, task.d, task.alpha].map(|figure| figure as u32));
         for lock in &task.locks {
@@ -120,6 +123,19 @@ impl Handed {
         answer + &lines.concat()
     }
 
+    /// The answer, and of a table that is not refused each task with its merged pairs, that of a group at the smallest of its members.
+    fn merged(&self) -> String {
+        let mut lines = checked(&self.table);
+        if self.found.is_ok() {
+            for task in self.table.one_lock_a_group().used() {
+                let pairs = task.locks.iter().flat_map(|lock| [lock.n, lock.c, lock.ct]);
+                let numbers: Vec<String> = [task.t, task.c, task.d, task.alpha].into_iter().chain(pairs).map(|x| x.to_string()).collect();
+                lines += &(numbers.join(" ") + "\n");
+            }
+        }
+        lines
+    }
+
     fn wait(&self, task: u32) -> String {
         match (&self.found, self.task(task)) {
             (Err(refusal), _) => refused(*refusal),
@@ -170,7 +186,7 @@ impl Handed {
 pub fn hold() {
     let handed = |text: &str| Handed::new(listing::read(text.as_bytes()).expect("an accepted listing"));
     let (a, late) = (handed(cases::CASE_A), handed(&cases::CASE_A.replace("30 6 30", "30 6 14.499")));
-    assert_eq!(request(2, 3, &with_allowance(&a.table, Some(5)))[4 * 1669..4 * 1670], [0, 0, 0, 5]);
+    assert_eq!(request(2, 3, &with_allowance(&a.table, Some(5)))[4 * 1685..4 * 1686], [0, 0, 0, 5]);
     assert_eq!([1, 2, 3].map(|task| a.bound(task, 6)), ["meets 3250 rounds 2\n", "meets 4000 rounds 1\n", "meets 14500 rounds 6\n"]);
     assert_eq!([&a, &late].map(|handed| handed.bound(3, 5)), ["open rounds 5\n", "misses rounds 5\n"]);
     assert_eq!([(3, 0), (0, 0), (4, 0), (4, 5)].map(|(task, allowance)| a.bound(task, allowance)), [16, 10, 10, 10].map(|k| refused((k, 0))));
@@ -182,6 +198,7 @@ pub fn hold() {
     assert_eq!(none.bound(0, 0), refused((9, 0)));
     assert!(none.row(0, 0).starts_with(&refused((9, 0))));
     hold_waits();
+    hold_groups();
 }
 
 /// Request 8/12: where alpha stands, and what is printed of waits.
@@ -196,7 +213,7 @@ fn hold_waits() {
     let three = mixed([5, 4, 3]);
     // T, C, D, alpha, and then the first lock: of the tasks one after another
     let word = |at: usize| request(1, 0, &words(&three.table))[4 * at + 3];
-    assert_eq!([8, 9, 5 + 52 + 3, 5 + 52 + 3 + 4, 5 + 2 * 52 + 3].map(word), [5, 2, 4, 1, 3]);
+    assert_eq!([24, 25, 21 + 52 + 3, 21 + 52 + 3 + 4, 21 + 2 * 52 + 3].map(word), [5, 2, 4, 1, 3]);
     assert_eq!([1, 2, 3].map(|task| waiting.wait(task)), ["wait 2200\n", "wait 400\n", "wait 0\n"]);
     assert_eq!([0, 4, u32::MAX].map(|task| waiting.wait(task)), [refused((10, 0)), refused((10, 0)), refused((10, 0))]);
     assert_eq!([1, 4].map(|task| without.wait(task)), ["no alpha\n".into(), refused((10, 0))]);
@@ -205,6 +222,30 @@ fn hold_waits() {
     assert_eq!(waiting.waits(), format!("fine\nalpha\n2200\n400\n{}", "0\n".repeat(30)));
     assert_eq!(without.waits(), format!("fine\nno alpha\n{zeros}"));
     assert_eq!(mixed([2, 0, 2]).waits(), format!("refused 17 place 0\nno alpha\n{zeros}"));
+}
+
+/// Request 9/12: where the groups stand, what is printed of merged pairs, and where 20 comes.
+fn hold_groups() {
+    let handed = |text: &str| Handed::new(listing::read(text.as_bytes()).expect("an accepted listing"));
+    let grouped = handed(cases::TOGETHER);
+    let bytes = request(13, 0, &words(&grouped.table));
+    assert_eq!([4, 5, 6, 7, 8, 20, 21].map(|at| u32::from_be_bytes(std::array::from_fn(|i| bytes[4 * at + i]))), [2, 2, 0, 2, 0, 9, 40_000]);
+    let line = |times: &str, pairs: &[(usize, &str)]| {
+        let pair = |k: usize| pairs.iter().find(|(at, _)| *at == k).map_or("0 0 0", |(_, pair)| pair);
+        format!("{times} {}\n", (1..=16).map(pair).collect::<Vec<_>>().join(" "))
+    };
+    let first = line("40000 9000 40000 0", &[(1, "3 2000 4000"), (2, "1 1000 1000")]);
+    let second = line("40000 9000 40000 0", &[(1, "2 1500 3000"), (2, "3 500 1500"), (4, "1 700 700")]);
+    assert_eq!(grouped.merged(), format!("fine\n{first}{second}"));
+    let mut beyond = grouped.table.clone();
+    beyond.groups[8] = 17;
+    assert_eq!(Handed::new(beyond.clone()).merged(), "refused 4 place 0\n");
+    // 20 comes after the table's own and before 11
+    let card = |table: &Table, room: usize| output(table, room, card::archived)[..19].to_vec();
+    assert_eq!([0, OUTPUT].map(|room| card(&grouped.table, room)), [b"refused 20 place 0\n"; 2]);
+    assert!(card(&beyond, 0).starts_with(b"refused 4 place 0\n"));
+    assert!(card(&grouped.table.without_groups(), 0).starts_with(b"refused 11 place 0\n"));
+    assert!(card(&grouped.table.without_groups(), OUTPUT).starts_with(b"wrote 1024\n"));
 }
 
 /// What is printed of a writer: its answer, or why it has none to give, and then the whole output, of which the first `room` bytes were lent.
@@ -221,14 +262,15 @@ fn filled(written: Result<Vec<u8>, String>, room: usize, short: String) -> Vec<u
     [answer.into_bytes(), bytes].concat()
 }
 
-/// The same of a writer of tables, which checks its table first.
-fn output(table: &Table, room: usize, write: fn(&Table) -> Vec<u8>) -> Vec<u8> {
-    let written = table.check().map(|()| write(table)).map_err(refused);
-    filled(written, room, refused((11, 0)))
+/// A writer of tables, which checks its table first. That its output is short comes after all that it refuses.
+type Writer = fn(&Table) -> Result<Vec<u8>, Refusal>;
+
+fn output(table: &Table, room: usize, write: Writer) -> Vec<u8> {
+    filled(write(table).map_err(refused), room, refused((11, 0)))
 }
 
-fn text(table: &Table) -> Vec<u8> {
-    listing::write(table).into_bytes()
+fn text(table: &Table) -> Result<Vec<u8>, Refusal> {
+    table.check().map(|()| listing::write(table).into_bytes())
 }
 
 /// What was read, shown as its text; of what was refused, that its table has no task.
@@ -252,9 +294,10 @@ fn outcome(entry: &str, answer: &[u8]) -> String {
     }
 }
 
-/// How many bytes a writer is given for a table: too few, just enough, more. One that is refused anyway gets any number.
-fn space(r: &mut Random, table: &Table, write: fn(&Table) -> Vec<u8>) -> u32 {
-    let length = if table.check().is_ok() { write(table).len() as u32 } else { 100 };
+/// How many bytes a writer is given for a table: too few, just enough, more; of one with groups what it would need without. One that is refused anyway gets
+/// any number.
+fn space(r: &mut Random, table: &Table, write: Writer) -> u32 {
+    let length = write(table).or_else(|_| write(&table.without_groups())).map_or(100, |written| written.len() as u32);
     *r.pick(&[0, length - 1, length, length, length + 1, 20_000])
 }
 
@@ -284,6 +327,25 @@ impl Call {
         let call = Call::bound(handed, task, allowance);
         let among = strides::breaks(&handed.table.merged(), task as usize - 1, allowance as u64).contains(strides::ALLOWANCE);
         Call { outcome: if among { format!("bound: {}", strides::ALLOWANCE) } else { call.outcome }, ..call }
+    }
+
+    /// Counted by whether 11 would come after 20.
+    fn card_write(table: &Table, room: u32) -> Call {
+        let call = Call::new("card write", 6, room, output(table, room as usize, card::archived));
+        let short = card::archived(&table.without_groups()).is_ok_and(|archive| (room as usize) < archive.len());
+        let and = if call.outcome.ends_with(" 20") && short { ", and the output is short" } else { "" };
+        Call { outcome: call.outcome + and, ..call }
+    }
+
+    /// Counted by whether there is something to merge.
+    fn merge(handed: &Handed) -> Call {
+        let call = Call::new("merge", 13, 0, handed.merged().into_bytes());
+        let and = match &handed.found {
+            Err(_) => "",
+            Ok(_) if handed.table.one_lock_a_group() != handed.table.without_groups() => ", some merged",
+            Ok(_) => ", as typed",
+        };
+        Call { outcome: call.outcome + and, ..call }
     }
 
     fn analyse(handed: &Handed, room: u32, allowance: u32) -> Call {
@@ -360,19 +422,27 @@ fn some_of_each() -> impl Iterator<Item = (Table, Vec<Call>)> {
     tables.extend((0..RAW_ALPHA).map(|_| generate::raw_alpha(&mut for_alpha)));
     tables.extend((0..MANY_PAIRS).map(|_| generate::many_pairs(&mut for_alpha)));
     tables.extend(cases::waits().iter().filter_map(|(text, _)| listing::read(text.as_bytes()).ok()));
+    let mut for_groups = Random::new(30);
+    tables.extend(edges::groups().into_iter().map(|(_, table, _)| table));
+    tables.extend(cases::groups().iter().filter_map(|(text, _)| listing::read(text.as_bytes()).ok()));
+    tables.extend(groups::tables(31, GROUPED));
+    tables.extend((0..RAW_GROUPS).map(|_| generate::raw_groups(&mut for_groups)));
     let mut for_rounds = Random::new(10);
     let asked = move |table: Table| {
         let n = table.n.min(32) as u32;
         let task = *r.pick(&[0, 1, n / 2 + 1, n, n + 1, u32::MAX]);
         let room = *r.pick(&[0, 1, n.max(1) - 1, n, n, n + 1, 32, 40]);
         let for_text = space(&mut r, &table, text);
-        let for_card = space(&mut for_cards, &table, card::write);
+        let for_card = space(&mut for_cards, &table, card::archived);
         let mut calls = vec![
             Call::new("check", 1, 0, checked(&table).into_bytes()),
             Call::new("write", 4, for_text, output(&table, for_text as usize, text)),
-            Call::new("card write", 6, for_card, output(&table, for_card as usize, card::write)),
+            Call::card_write(&table, for_card),
         ];
         let handed = Handed::new(table);
+        if handed.table.has_groups() || for_groups.one_in(3) {
+            calls.push(Call::merge(&handed));
+        }
         calls.extend(allowances(&mut for_rounds, handed.task(task)).into_iter().map(|allowance| Call::bound(&handed, task, allowance)));
         let other = handed.task(for_rounds.within(1, n.max(1) as u64) as u32);
         calls.extend(allowances(&mut for_rounds, other).into_iter().map(|allowance| Call::analyse(&handed, room, allowance)));
@@ -426,7 +496,7 @@ pub fn compare(program: &str) -> bool {
 /// Each entry point checks its table by itself. Of an allowance of 0 every refusal that comes before it, and the one that comes after.
 fn wanted() -> Vec<String> {
     let refusals = |name: &'static str| [4, 5, 7, 8, 9, 17, 18].map(|k| format!("{name}: refused {k:>2}"));
-    let mut all: Vec<String> = ["check", "write", "card write", "wait", "wait_all"].into_iter().flat_map(refusals).collect();
+    let mut all: Vec<String> = ["check", "write", "card write", "wait", "wait_all", "merge"].into_iter().flat_map(refusals).collect();
     for refused in ["bound", "analyse"].into_iter().flat_map(refusals).chain(["bound: refused 10".into()]) {
         all.push(format!("{refused}, and the allowance is 0"));
         all.push(refused);
@@ -439,6 +509,8 @@ fn wanted() -> Vec<String> {
     all.extend(["", ", some open", ", all open"].map(|how| format!("analyse: fine{how}")));
     all.extend(["wait", "0", "no alpha", "refused 10"].map(|answer| format!("wait: {answer}")));
     all.extend(["alpha", "no alpha"].map(|alpha| format!("wait_all: fine, {alpha}")));
+    all.extend(["some merged", "as typed"].map(|how| format!("merge: fine, {how}")));
+    all.extend(["", ", and the output is short"].map(|and| format!("card write: refused 20{and}")));
     all
 }
 
@@ -542,7 +614,7 @@ pub fn archives(program: &str) -> bool {
 fn longest_card(program: &str) -> bool {
     let table = cards::full();
     let length = card::write(&table).len();
-    let same = |room: &usize| run(program, &request(6, *room as u32, &words(&table))).is(output(&table, *room, card::write));
+    let same = |room: &usize| run(program, &request(6, *room as u32, &words(&table))).is(output(&table, *room, card::archived));
     let unlike: Vec<usize> = [length, length - 1].into_iter().filter(|room| !same(room)).collect();
     if unlike.is_empty() {
         println!("the longest archive, {length} bytes, is written");
@@ -669,7 +741,7 @@ pub fn longest() -> Table {
 /// The longest text: written into an output of exactly its length, refused by one of a byte less, and read back.
 pub fn longest_text(report: &str, program: &str) -> bool {
     let table = longest();
-    let longest = text(&table);
+    let longest = listing::write(&table).into_bytes();
     assert_eq!(listing::read(&longest).as_ref(), Ok(&table), "the longest text is not read back here");
     let written = |room: usize| (run(program, &request(4, room as u32, &words(&table))), output(&table, room, text));
     let read = (run(report, &longest), report::text(&longest, Program::Report).into_bytes());
