@@ -35,9 +35,11 @@ impl Count {
     }
 }
 
-/// A table that is searched, the bounds that its jobs are held to, and the largest response time of each task so far.
+/// A table that is searched, its locks, the bounds that its jobs are held to, and the largest response time of each task so far. A group is one lock, of which
+/// a job may make as many requests as of its members together, each as long as the longest of them: so they may be more than the listing has.
 pub struct Search<'a> {
     table: &'a Table,
+    locks: Table,
     bounds: &'a [u64],
     pub largest: Vec<u64>,
     pub count: Count,
@@ -45,7 +47,7 @@ pub struct Search<'a> {
 
 impl<'a> Search<'a> {
     pub fn new(table: &'a Table, bounds: &'a [u64]) -> Search<'a> {
-        Search { table, bounds, largest: vec![0; bounds.len()], count: Count::default() }
+        Search { table, locks: table.one_lock_a_group(), bounds, largest: vec![0; bounds.len()], count: Count::default() }
     }
 
     /// One climb of so many steps from a start of its own. Where it starts and where it ends, the schedule is audited.
@@ -55,7 +57,7 @@ impl<'a> Search<'a> {
         self.audit(&scenario);
         let mut reached = largest(&scenario.jobs[target], &finishes[target]);
         for _ in 0..steps {
-            let Some(mut change) = change::draw(r, self.table, &scenario, &finishes) else { continue };
+            let Some(mut change) = change::draw(r, &self.locks, &scenario, &finishes) else { continue };
             change.swap(&mut scenario);
             let after = self.within_bounds(&scenario)?;
             let response = largest(&scenario.jobs[target], &after[target]);
@@ -74,13 +76,13 @@ impl<'a> Search<'a> {
         let longest = tasks.iter().map(|task| task.t).max().unwrap_or(1);
         let most = BEFORE / tasks.iter().map(|task| 1.0 / task.t as f64).sum::<f64>();
         let start = (*r.pick(&[1, tasks[target].t, longest, 2 * longest])).clamp(1, most as u64);
-        let jobs = draw::jobs(r, self.table, target, start, start + self.bounds[target]);
+        let jobs = draw::jobs(r, &self.locks, target, start, start + self.bounds[target]);
         Scenario { jobs, kernel: draw::kernel(r) }
     }
 
     /// Simulates, and holds every job to its bound. If one is late, the schedule is audited: it must be one of the model.
     fn within_bounds(&mut self, scenario: &Scenario) -> Result<Finishes, Box<Late>> {
-        assert!(jobs::may_be(self.table, &scenario.jobs), "jobs out of their limits:\n{}{}", listing::write(self.table), scenario.text());
+        assert!(jobs::may_be(&self.locks, &scenario.jobs), "jobs out of their limits:\n{}{}", listing::write(self.table), scenario.text());
         self.count.schedules += 1;
         let finishes = if self.count.schedules % ONE_IN == 0 { self.hold(scenario) } else { scenario.kernel.finishes(self.table.m, &scenario.jobs) };
         for (task, (jobs, finishes)) in scenario.jobs.iter().zip(&finishes).enumerate() {
@@ -107,7 +109,7 @@ impl<'a> Search<'a> {
         let (finishes, intervals) = scenario.kernel.schedule(self.table.m, &scenario.jobs);
         let jobs = generated::job_set(&scenario.jobs);
         let Found { broken, looked_at } = facts::in_intervals(self.table.m, &jobs, &intervals);
-        if let Some(broken) = generated::broken(self.table, &jobs).iter().chain(&broken).next() {
+        if let Some(broken) = generated::broken(&self.locks, &jobs).iter().chain(&broken).next() {
             panic!("a fact of the proved model is broken: {broken}\n{}{}", listing::write(self.table), scenario.text());
         }
         self.count.held += 1;

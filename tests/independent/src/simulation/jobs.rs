@@ -1,4 +1,5 @@
-//! Jobs: when each is released and what it runs, and the limits that section II of the report sets to the jobs of a task.
+//! Jobs: when each is released and what it runs, and the limits that section II of the report sets to the jobs of a task. A table here has no groups: each of
+//! its resources is a lock.
 
 use crate::listing;
 use crate::table::{Table, Task, LOCKS};

@@ -31,6 +31,7 @@ use std::process::ExitCode;
 
 const SEED: u64 = 1;
 const SYSTEMS: usize = 6_000;
+const GROUPED: usize = 1_000;
 /// Climbs in each system, and the steps of each.
 const CLIMBS: u64 = 3;
 const STEPS: u64 = 150;
@@ -90,6 +91,7 @@ fn try_all(path: &str) -> Result<(), Stop> {
     let chosen = search::meeting(&report, systems::chosen());
     say("chosen", &search::through(chosen, SEED, |r, _, search| search::climb_to_each(r, search, CLIMBS, STEPS))?);
     say("random", &search::random(&report, SEED, SYSTEMS, some_climbs)?);
+    say("random grouped", &search::grouped(&report, SEED, GROUPED, some_climbs)?);
     Ok(())
 }
 

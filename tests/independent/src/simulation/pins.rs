@@ -36,7 +36,7 @@ fn always(what: &'static str, m: u64, told: Vec<Vec<Told>>) -> Pin {
 
 /// Says how many there are, if each comes out as worked out.
 pub fn hold() -> usize {
-    let all: Vec<Pin> = [assigned(), inherited(), granted(), ordered(), vec![case_a()]].into_iter().flatten().collect();
+    let all: Vec<Pin> = [assigned(), inherited(), granted(), ordered(), vec![case_a()], together()].into_iter().flatten().collect();
     all.iter().for_each(Pin::hold);
     limits();
     all.len()
@@ -135,13 +135,28 @@ fn ordered() -> Vec<Pin> {
 /// Case A of the paper: task 3 takes the lock just before task 1 arrives, which is then as late as its bound, 3.25 ms. When it has released the lock, task 3
 /// gives way until task 1 is done.
 fn case_a() -> Pin {
-    let told = vec![
+    let told: Vec<Vec<Told>> = vec![
         vec![job(0, &[request(0, 500), free(2_000)], 3_250)],
         vec![job(0, &[free(4_000)], 4_000)],
         vec![job(0, &[request(0, 750), free(4_500), request(0, 750)], 8_500)],
     ];
-    let table = listing::read(cases::CASE_A.as_bytes()).expect("an accepted listing");
-    let jobs = told.iter().map(|jobs: &Vec<Told>| jobs.iter().map(|(job, _)| job.clone()).collect()).collect();
-    assert!(may_be(&table, &jobs), "not jobs of case A");
-    Pin { what: "case A", m: table.m, granting: BOTH_WAYS, orders: &[LOWEST_FIRST], told }
+    assert!(of_listing(cases::CASE_A, &told), "not jobs of case A");
+    Pin { what: "case A", m: 2, granting: BOTH_WAYS, orders: &[LOWEST_FIRST], told }
+}
+
+/// Whether these can be the jobs of a listing. A group is one lock, with the index of its first member.
+fn of_listing(text: &str, told: &[Vec<Told>]) -> bool {
+    let table = listing::read(text.as_bytes()).expect("an accepted listing");
+    may_be(&table.one_lock_a_group(), &told.iter().map(|jobs| jobs.iter().map(|(job, _)| job.clone()).collect()).collect())
+}
+
+/// Two locks of a group, one after the other. Let go between them, it is had by task 1 when it is free, in 2.9 ms of a bound of 3. Held from the first lock's
+/// start to the second's end, it takes 3.9 ms: that is no job of the first listing, but one of the second, whose bound is 4.
+fn together() -> Vec<Pin> {
+    let let_go = vec![vec![job(100, &[request(0, 1_000)], 3_000)], vec![job(0, &[request(0, 2_000), request(0, 2_000)], 5_000)]];
+    let held = vec![vec![job(100, &[request(0, 1_000)], 4_000)], vec![job(0, &[request(0, 3_000), free(1_000)], 4_000)]];
+    let listings = [cases::OVERLAPPING, cases::OVERLAPPING_TYPED];
+    assert_eq!(listings.map(|text| of_listing(text, &let_go)), [true, true]);
+    assert_eq!(listings.map(|text| of_listing(text, &held)), [false, true]);
+    vec![always("a group is let go between two locks", 2, let_go), always("a group is held over two locks", 2, held)]
 }

@@ -1,5 +1,6 @@
-//! Schedules in which a bound is passed because something is not as it presumes, told with their listings: a task misses, or the kernel is a wrong one. Each
-//! is replayed from its releases and segments, and takes exactly as long as told. Where all tasks meet, no job is late with a right kernel.
+//! Schedules in which a bound is passed because something is not as it presumes, told with their listings: a task misses, the kernel is a wrong one, or a job
+//! holds a group for longer than it may. Each is replayed from its releases and segments, and takes exactly as long as told. Where all tasks meet and the jobs
+//! keep to their limits, no job is late with a right kernel.
 
 use super::jobs::{free, may_be, request, Job, Jobs, Segment};
 use super::kernel::{Granting, Inheritance, Kernel, Wait, ORDERS};
@@ -31,6 +32,8 @@ struct Replay {
     ways: &'static [Way],
     /// The facts of the proved model that such kernels break here.
     breaks: &'static [&'static str],
+    /// Those that the jobs break.
+    limits: &'static [&'static str],
     jobs: Jobs,
 }
 
@@ -44,6 +47,7 @@ fn replays() -> Vec<Replay> {
             response: 13_000,
             ways: &RIGHT,
             breaks: &[],
+            limits: &[],
             jobs: vec![
                 alike(&[0, 6_000, 12_000, 18_000, 24_000, 30_000], &[free(3_000)]),
                 alike(&[0, 6_000, 12_000, 18_000, 27_000, 33_000], &[free(3_000)]),
@@ -59,6 +63,7 @@ fn replays() -> Vec<Replay> {
             response: 10_800,
             ways: &RIGHT,
             breaks: &[],
+            limits: &[],
             jobs: vec![
                 alike(&[10_200, 16_200], &[request(0, 1_000)]),
                 alike(&[10_200, 16_200], &[free(3_000)]),
@@ -75,6 +80,7 @@ fn replays() -> Vec<Replay> {
             response: 3_800,
             ways: &RIGHT,
             breaks: &[],
+            limits: &[],
             jobs: vec![
                 vec![Job::new(1_500, &[request(0, 1_000), request(1, 1_000)]), Job::new(7_500, &[request(1, 1_000), request(0, 1_000)])],
                 alike(&[6_200], &[request(1, 1_000), request(1, 1_000)]),
@@ -89,6 +95,7 @@ fn replays() -> Vec<Replay> {
             response: 4_800,
             ways: &FIFO,
             breaks: &["not_past"],
+            limits: &[],
             jobs: vec![alike(&[200], &[request(0, 1_000)]), alike(&[100], &[request(0, 2_000)]), alike(&[0], &[request(0, 2_000)])],
         },
         Replay {
@@ -99,6 +106,7 @@ fn replays() -> Vec<Replay> {
             response: 12_500,
             ways: &TO_THE_LETTER,
             breaks: &["conserves"],
+            limits: &[],
             jobs: vec![
                 alike(&[300], &[request(0, 1_000)]),
                 alike(&[300], &[request(1, 1_000)]),
@@ -115,6 +123,7 @@ fn replays() -> Vec<Replay> {
             response: 7_900,
             ways: &UNINHERITED,
             breaks: &["conserves"],
+            limits: &[],
             jobs: vec![alike(&[100], &[request(0, 1_000)]), alike(&[200], &[free(5_000)]), alike(&[0], &[request(0, 2_000)])],
         },
         Replay {
@@ -125,7 +134,20 @@ fn replays() -> Vec<Replay> {
             response: 6_800,
             ways: &SPINNING,
             breaks: &["conserves"],
+            limits: &[],
             jobs: vec![alike(&[100], &[request(0, 1_000)]), alike(&[200], &[free(5_000)]), alike(&[0], &[request(0, 2_000)])],
+        },
+        // task 2 has one lock from 0 to 2 and the other from 1 to 3, and does not let the group go between
+        Replay {
+            listing: cases::OVERLAPPING,
+            misses: &[],
+            task: 1,
+            bound: 3_000,
+            response: 3_900,
+            ways: &RIGHT,
+            breaks: &[],
+            limits: &["longest"],
+            jobs: vec![alike(&[100], &[request(0, 1_000)]), alike(&[0], &[request(0, 3_000), free(1_000)])],
         },
     ]
 }
@@ -148,10 +170,12 @@ impl Replay {
         let missing: Vec<usize> = (1..).zip(&bounds).filter(|(_, bound)| bound.is_none()).map(|(number, _)| number).collect();
         assert_eq!(missing, self.misses, "the tasks that miss in\n{}", self.listing);
         assert_eq!(bounds[self.task - 1], Some(self.bound), "the bound of task {} in\n{}", self.task, self.listing);
-        assert!(may_be(&table, &self.jobs), "jobs out of their limits:\n{}", self.listing);
-        assert!(generated::broken(&table, &generated::job_set(&self.jobs)).is_empty(), "not jobs of the proved model:\n{}", self.listing);
+        let locks = table.one_lock_a_group();
+        assert_eq!(may_be(&locks, &self.jobs), self.limits.is_empty(), "the limits of the jobs in\n{}", self.listing);
+        let broken = generated::broken(&locks, &generated::job_set(&self.jobs));
+        assert_eq!(generated::names(&broken), self.limits, "the facts that the jobs break in\n{}", self.listing);
         self.scenarios(self.ways).for_each(|scenario| self.as_told(&scenario, table.m));
-        if missing.is_empty() {
+        if missing.is_empty() && self.limits.is_empty() {
             self.scenarios(&RIGHT).for_each(|scenario| self.in_time(&scenario, table.m, &bounds));
         }
         Ok(())

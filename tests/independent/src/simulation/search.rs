@@ -72,14 +72,35 @@ pub fn through(
     Ok(tried)
 }
 
-/// Searches so many random systems. Of a program that says of nine tables in ten that a task misses there is nothing to search.
+/// Searches so many random systems.
 pub fn random(
     report: &Report,
     seed: u64,
     systems: usize,
     each: impl FnMut(&mut Random, &System, &mut Search) -> Result<(), Box<Late>>,
 ) -> Result<Tried, Stop> {
-    let tables = systems::random(seed).take(systems.saturating_mul(10));
+    so_many(report, systems::random(seed), seed, systems, each)
+}
+
+/// The same of systems with groups.
+pub fn grouped(
+    report: &Report,
+    seed: u64,
+    systems: usize,
+    each: impl FnMut(&mut Random, &System, &mut Search) -> Result<(), Box<Late>>,
+) -> Result<Tried, Stop> {
+    so_many(report, systems::grouped(seed), seed, systems, each)
+}
+
+/// Searches so many systems of these tables. Of a program that says of nine tables in ten that a task misses there is nothing to search.
+fn so_many(
+    report: &Report,
+    tables: impl Iterator<Item = Table>,
+    seed: u64,
+    systems: usize,
+    each: impl FnMut(&mut Random, &System, &mut Search) -> Result<(), Box<Late>>,
+) -> Result<Tried, Stop> {
+    let tables = tables.take(systems.saturating_mul(10));
     let tried = through(meeting(report, tables).take(systems), seed, each)?;
     if tried.searched < systems as u64 {
         return Err(Stop::BadInput(format!("all tasks meet in {} of {} systems only", tried.searched, systems.saturating_mul(10))));

@@ -21,12 +21,35 @@ pub fn random(seed: u64) -> impl Iterator<Item = Table> {
     })
 }
 
+/// The same with groups of some of the first locks, which those that hold most of them share out. What the tasks share is not the same then, so that the periods
+/// come after the groups.
+pub fn grouped(seed: u64) -> impl Iterator<Item = Table> {
+    let mut r = Random::new(seed);
+    std::iter::repeat_with(move || {
+        let shape = *r.pick(&[any_of_several, any_of_several, held_above, held_below]);
+        let mut table = shape(&mut r);
+        put_together(&mut r, &mut table);
+        let_meet(&mut table);
+        shorten_deadlines(&mut r, &mut table);
+        table
+    })
+}
+
+/// The first locks in one group or in two, or some of them by themselves. Their numbers may be those of other locks.
+fn put_together(r: &mut Random, table: &mut Table) {
+    let [one, other] = [(); 2].map(|()| r.within(1, 4) as u32);
+    let among = *r.pick(&[[one, one, one], [one, one, other], [one, one, 0]]);
+    table.groups[..4].iter_mut().for_each(|group| *group = *r.pick(&among));
+}
+
 /// Tables made by hand for other reasons, in milliseconds most of them.
 pub fn chosen() -> impl Iterator<Item = Table> {
     let [story, easier, falls] = [cases::STORY, cases::EASIER, cases::FALLS];
     let capped = [cases::LONG_ABOVE, cases::LONGER_ABOVE, cases::LONG_LOCK_ABOVE, cases::LONG_LOCK_BELOW, cases::TWO_ABOVE, cases::O_AND_F];
     let others = [cases::CASE_A, cases::THIRDS, cases::QUEUED, cases::TO_THE_LETTER, cases::UNINHERITED, cases::SPINNING, include_str!("../../../../examples/board.txt")];
-    let all = [&story[..], &easier, &falls, &capped, &others].concat();
+    let [coarser, smaller] = [cases::COARSER, cases::COARSER_AND_SMALLER];
+    let grouped = [cases::TOGETHER, cases::MERGED, cases::SMALLER, cases::OVERLAPPING, cases::OVERLAPPING_TYPED];
+    let all = [&story[..], &easier, &falls, &capped, &others, &coarser, &smaller, &grouped].concat();
     all.into_iter().map(|text| listing::read(text.as_bytes()).expect("an accepted listing"))
 }
 
@@ -70,6 +93,15 @@ fn most_of(r: &mut Random, task: &Task) -> u64 {
 /// Any locks or none in any task.
 fn any(r: &mut Random) -> Table {
     let (size, locks) = (size(r), *r.pick(&[0, 0, 1, 2, 3]));
+    any_of(r, size, locks)
+}
+
+fn any_of_several(r: &mut Random) -> Table {
+    let (size, locks) = (size(r), *r.pick(&[2, 3, 4]));
+    any_of(r, size, locks)
+}
+
+fn any_of(r: &mut Random, size: (u64, u64), locks: usize) -> Table {
     filled(r, size, |r, _, task| {
         for k in 0..locks {
             let left = task.outside_locks();

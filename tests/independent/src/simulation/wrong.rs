@@ -5,30 +5,41 @@ use super::printed::Report;
 use super::search::{self, System};
 use super::{systems, Stop};
 use crate::analysis::{self, Terms, UNLIMITED};
+use crate::groups::{self, Merging};
 use crate::merge::{Column, Merged};
 use crate::random::Random;
 use crate::table::Table;
 
 const SEED: u64 = 2;
 /// Each is refuted within so many systems, by climbs of so many steps.
-const SYSTEMS: u64 = 30;
+const SYSTEMS: u64 = 150;
 const STEPS: u64 = 150;
 
-/// What is wrong with it, and its demand for the task at `i` (from 0) by the terms at one length.
 pub struct Wrong {
     pub name: &'static str,
-    demand: fn(&Merged, usize, Terms) -> u64,
+    by: By,
 }
 
-pub const ALL: [Wrong; 8] = [
-    Wrong { name: "no DB", demand: |merged, i, terms| Terms { db: 0, ..terms }.demand(merged, i) },
-    Wrong { name: "DB once a lock", demand: |merged, i, terms| Terms { db: once_a_lock(merged, i), ..terms }.demand(merged, i) },
-    Wrong { name: "S divided by m", demand: s_divided },
-    Wrong { name: "no S", demand: |merged, i, terms| Terms { s: 0, ..terms }.demand(merged, i) },
-    Wrong { name: "no O", demand: |merged, i, terms| Terms { o: 0, ..terms }.demand(merged, i) },
-    Wrong { name: "no F", demand: |merged, i, terms| Terms { f: 0, ..terms }.demand(merged, i) },
-    Wrong { name: "no L", demand: |merged, i, terms| Terms { l: 0, ..terms }.demand(merged, i) },
-    Wrong { name: "the short form up to task m + 1", demand: short_up_to_next },
+/// What is wrong: the demand for the task at `i` (from 0) by the terms at one length, or the columns of a table with groups.
+enum By {
+    Demand(fn(&Merged, usize, Terms) -> u64),
+    Merging(Merging),
+}
+
+pub const ALL: [Wrong; 13] = [
+    Wrong { name: "no DB", by: By::Demand(|merged, i, terms| Terms { db: 0, ..terms }.demand(merged, i)) },
+    Wrong { name: "DB once a lock", by: By::Demand(|merged, i, terms| Terms { db: once_a_lock(merged, i), ..terms }.demand(merged, i)) },
+    Wrong { name: "S divided by m", by: By::Demand(s_divided) },
+    Wrong { name: "no S", by: By::Demand(|merged, i, terms| Terms { s: 0, ..terms }.demand(merged, i)) },
+    Wrong { name: "no O", by: By::Demand(|merged, i, terms| Terms { o: 0, ..terms }.demand(merged, i)) },
+    Wrong { name: "no F", by: By::Demand(|merged, i, terms| Terms { f: 0, ..terms }.demand(merged, i)) },
+    Wrong { name: "no L", by: By::Demand(|merged, i, terms| Terms { l: 0, ..terms }.demand(merged, i)) },
+    Wrong { name: "the short form up to task m + 1", by: By::Demand(short_up_to_next) },
+    Wrong { name: "no groups", by: By::Merging(groups::apart) },
+    Wrong { name: "N the largest of a group", by: By::Merging(groups::n_largest) },
+    Wrong { name: "CT the largest of a group", by: By::Merging(groups::ct_largest) },
+    Wrong { name: "c of a group's first member", by: By::Merging(groups::c_of_first) },
+    Wrong { name: "a group at the first member that a task uses", by: By::Merging(groups::first_in_use) },
 ];
 
 impl Wrong {
@@ -36,7 +47,11 @@ impl Wrong {
     pub fn refuted(&self, report: &Report) -> Result<(u64, Count), Stop> {
         let mut r = Random::new(SEED);
         let mut count = Count::default();
-        for (searched, system) in (1..=SYSTEMS).zip(search::meeting(report, systems::random(SEED))) {
+        let tables: Box<dyn Iterator<Item = Table>> = match self.by {
+            By::Demand(_) => Box::new(systems::random(SEED)),
+            By::Merging(_) => Box::new(systems::grouped(SEED)),
+        };
+        for (searched, system) in (1..=SYSTEMS).zip(search::meeting(report, tables)) {
             if self.refuted_by(&mut r, &system?, &mut count)? {
                 return Ok((searched, count));
             }
@@ -57,13 +72,18 @@ impl Wrong {
         }
     }
 
-    /// The wrong bounds of a table in which all tasks meet: so they do by a demand that is nowhere larger.
+    /// The wrong bounds of a table in which all tasks meet: so they do by a demand that is nowhere larger. By wrong columns one may miss; of that task nothing is
+    /// held to a bound.
     fn bounds(&self, table: &Table) -> Vec<u64> {
-        let merged = table.merged();
-        let bound = |i: usize| {
-            let demand = |t| (self.demand)(&merged, i, analysis::terms(&merged, i, t, analysis::workload));
-            analysis::replaced(table.tasks[i].c, table.tasks[i].d, UNLIMITED, demand).bound()
+        let merged = match self.by {
+            By::Demand(_) => table.merged(),
+            By::Merging(merging) => Merged { table, columns: merging(table) },
         };
+        let demand = |i: usize, t: u64| {
+            let terms = analysis::terms(&merged, i, t, analysis::workload);
+            if let By::Demand(demand) = self.by { demand(&merged, i, terms) } else { terms.demand(&merged, i) }
+        };
+        let bound = |i: usize| analysis::replaced(table.tasks[i].c, table.tasks[i].d, UNLIMITED, |t| demand(i, t)).bound();
         (0..table.n as usize).map(bound).collect()
     }
 }
