@@ -29,11 +29,9 @@ use Rattle.table.specs.declared.Checked.{Checked}
 use Rattle.table.specs.declared.Checked.the-variants.{Fine, Refused}
 use Rattle.table.specs.Limits.{maxTasks}
 use Rattle.table.specs.Rules.{tableFault, askedFault}
-use Rattle.table.specs.Answers.{orTable}
 use Rattle.table.proofs.FirstLaws.{then-fine}
 use Rattle.table.proofs.RuleLaws.{unless-fine}
 use Rattle.table.proofs.Acceptance.{fine-accepted}
-use Rattle.theory.specs.Merge.{merged}
 use Rattle.theory.specs.Groups.{InBounds}
 use Rattle.theory.specs.Tables.{viewOf}
 use Rattle.merging.proofs.ReadLaws.{read-merged, read-asks}

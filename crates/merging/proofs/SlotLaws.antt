@@ -1,7 +1,7 @@
 -- The merged pairs of a task, once the first n resources are passed: none at first, each added at its slot, and small enough to be added.
 -- Assumes nothing.
 use Prim.Native.Nat.{ℕ, _+_, _*_, _≤_, _<_, max}
-use mathlib.Core.Path.{_≡_, refl, sym, ap, _∙_}
+use mathlib.Core.Path.{_≡_, refl, sym, _∙_}
 use mathlib.Core.List.{List}
 use native.Mathlib.Decide.{ℕ-discrete}
 use native.Mathlib.Nat.{le-trans}
@@ -10,7 +10,6 @@ use borrow.Author.Tests.{eq-eqb, ne-eqb}
 use lib.Dec.{eqb}
 use lib.ListN.{getD, set, replicate, length-replicate, getD-replicate, length-set}
 use lib.Seq.{getD-set-same, getD-set-other}
-use Rattle.basics.specs.Choice.{only}
 use Rattle.basics.specs.Over.{sumTo, maxTo, rowTo}
 use Rattle.basics.proofs.ChoiceLaws.{only-below}
 use Rattle.basics.proofs.SumLaws.{sum-more, sum-bound}

@@ -21,7 +21,7 @@ use Rattle.table.specs.Rules.{hasAlpha, tableFault}
 use Rattle.theory.specs.View.{level}
 use Rattle.listing.specs.Read.{readListing}
 use Rattle.theory.specs.declared.Verdict.the-variants.{Meets}
-use Rattle.analysis.specs.Answers.{noRecord, orNone, recordCount, analysisFault, recordBy, recordOf, analysed}
+use Rattle.analysis.specs.Answers.{noRecord, orNone, recordCount, analysisFault, recordBy}
 use Rattle.analysis.proofs.RowLaws.{fits, count-most, count-fine, row-record}
 use Rattle.waits.specs.Answers.{waitIn, noWaits, slotWait, waitsOf, allWaits}
 use Rattle.page.specs.declared.Page.{Page}

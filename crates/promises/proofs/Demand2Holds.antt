@@ -25,7 +25,7 @@ use Rattle.theory.proofs.DemandLaws.{demand-start}
 use Rattle.analysis.specs.declared.Answer.the-variants.{Known}
 use Rattle.theory.specs.Tables.{mergedView, countedBy, countedIn}
 use Rattle.analysis.specs.declared.Record.{Record}
-use Rattle.analysis.specs.Answers.{boundOf, analysisFault, recordOf, recordBy}
+use Rattle.analysis.specs.Answers.{boundOf, analysisFault, recordBy}
 use Rattle.analysis.proofs.ByRounds.{rounds-end, rounds-right, bound-known}
 use Rattle.analysis.proofs.RowLaws.{fits, allowed, count-fine, row-record, row-past, row-long}
 use Rattle.meaning.proofs.Meaning.{correct, complete, passes-check}

@@ -2,7 +2,6 @@
 -- Assumes nothing.
 use Prim.Native.Nat.{ℕ, suc, pred, _≤_, _<_}
 use mathlib.Core.Path.{_≡_, refl, sym, ap, _∙_}
-use mathlib.Core.Bool.{Bool}
 use native.Mathlib.Decide.{ℕ-discrete}
 use native.Mathlib.Omega.{arith}
 use borrow.Author.Tests.{eq-eqb, ne-eqb}
@@ -12,12 +11,11 @@ use Rattle.basics.specs.Over.{sumTo, maxTo, allTo, firstTo, joinTo}
 use Rattle.basics.proofs.SumLaws.{sum-eq, sum-single}
 use Rattle.basics.proofs.MaxLaws.{max-eq, max-single}
 use Rattle.table.specs.declared.Level.{Level}
-use Rattle.table.specs.declared.Pair.{Pair}
 use Rattle.table.specs.declared.Table.{Table}
 use Rattle.table.specs.declared.Checked.the-variants.{Fine}
 use Rattle.table.specs.Limits.{maxResources}
 use Rattle.table.specs.Empty.{emptyTask, emptyTable}
-use Rattle.table.specs.At.{taskAt, alphaAt, groupAt, pairAt, totalOf, NoGroup}
+use Rattle.table.specs.At.{taskAt, alphaAt, groupAt, pairAt, totalOf}
 use Rattle.table.specs.Faults.{firstFault}
 use Rattle.table.specs.Rules.{timesInRange, timesInOrder, timesFault, groupsInRange, hasGroup, isUnused, usedInRange, pairInRange, totalsFit, pairFault, pairsFault, alphaFault, taskFault, lastAlpha, tasksFault, tableFault}
 use Rattle.table.proofs.Acceptance.{fine-accepted}
@@ -32,7 +30,7 @@ use Rattle.theory.specs.Demand.{sharedCT, otherCT, allCT, highCT, DB, S, O, F, 
 use Rattle.theory.specs.Rounds.{countedFrom}
 use Rattle.theory.specs.Merge.{slotOf, mergedPair, mergedTask, groupedTasks, mergedTasks, merged}
 use Rattle.theory.specs.Groups.{memberOf, groupPair}
-use Rattle.theory.specs.Tables.{viewOf, mergedView, countedBy, countedIn}
+use Rattle.theory.specs.Tables.{mergedView, countedBy}
 use Rattle.theory.proofs.WorkLaws.{workload-rises}
 use Rattle.theory.proofs.MergeLaws.{merged-agrees, merged-bounds}
 use Rattle.analysis.specs.Answers.{boundOf}

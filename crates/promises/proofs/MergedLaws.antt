@@ -1,21 +1,20 @@
 -- What the views of merged pairs have: what the check leaves of them; that they do not read alpha, nor the numbers of groups; and that they are no easier where the pairs as typed are.
 -- Assumes nothing.
-use Prim.Native.Nat.{ℕ, pred, _-_, _≤_, _<_}
-use mathlib.Core.Path.{_≡_, refl, sym, ap, ap₂, _∙_}
+use Prim.Native.Nat.{ℕ, _-_, _≤_, _<_}
+use mathlib.Core.Path.{_≡_, refl, sym, ap, _∙_}
 use mathlib.Core.Bool.{Bool, true, false, _&&_, _||_}
-use mathlib.Core.List.{List, [], _∷_, _++_, map}
 use mathlib.Core.Logic.{_⊎_, inl, inr}
 use native.Mathlib.Decide.{ℕ-discrete, decLt}
 use native.Mathlib.Nat.{le-trans}
 use native.Mathlib.Omega.{arith}
 use borrow.Author.Tests.{eqb-true, eqb-false, eq-eqb, ne-eqb, lt-ltb, le-ltb}
 use lib.Dec.{eqb, ltb}
-use Rattle.basics.specs.Choice.{pick, only}
-use Rattle.basics.specs.Over.{sumTo, firstTo, joinTo, rowTo}
-use Rattle.basics.proofs.ChoiceLaws.{only-le, or-neither}
+use Rattle.basics.specs.Choice.{only}
+use Rattle.basics.specs.Over.{firstTo}
+use Rattle.basics.proofs.ChoiceLaws.{only-le}
 use Rattle.basics.proofs.SumLaws.{sum-le, sum-eq, sum-some}
 use Rattle.basics.proofs.MaxLaws.{max-le}
-use Rattle.basics.proofs.FirstIndexLaws.{First, first-is, first-by, first-eq}
+use Rattle.basics.proofs.FirstIndexLaws.{First, first-by, first-eq}
 use Rattle.table.specs.declared.Level.{Level}
 use Rattle.table.specs.declared.Pair.{Pair}
 use Rattle.table.specs.declared.Task.{Task}
@@ -27,9 +26,9 @@ use Rattle.table.specs.At.{taskAt, groupAt, pairOf, pairAt, totalOf, NoGroup}
 use Rattle.table.specs.Rules.{tableFault}
 use Rattle.table.specs.Accepted.{GoodPair, Accepted}
 use Rattle.table.proofs.Acceptance.{fine-accepted}
-use Rattle.theory.specs.View.{View, level, resource, uses}
+use Rattle.theory.specs.View.{level, uses}
 use Rattle.theory.specs.Demand.{allCT}
-use Rattle.theory.specs.Merge.{slotOf, partAt, mergedPair, merged}
+use Rattle.theory.specs.Merge.{slotOf, mergedPair, merged}
 use Rattle.theory.specs.Tables.{viewOf, mergedView}
 use Rattle.theory.proofs.MergeLaws.{slot-alone, slot-group, slot-below, used-merged, sum-merged, pair-alike, MergedTask, none-tasks, merged-task}
 use Rattle.promises.specs.NoEasier.{eachPair, NoEasier}

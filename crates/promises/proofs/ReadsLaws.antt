@@ -6,7 +6,6 @@ use mathlib.Core.Bool.{Bool, true}
 use native.Mathlib.Decide.{decLe, decLt}
 use native.Mathlib.Omega.{arith}
 use borrow.Author.Tests.{ltb-true, lt-ltb, le-ltb, le-leb, lt-leb}
-use lib.Dec.{ltb}
 use Rattle.basics.specs.Choice.{only}
 use Rattle.basics.proofs.ChoiceLaws.{only-some}
 use Rattle.basics.proofs.SumLaws.{sum-part, sum-found}

@@ -1,18 +1,17 @@
 -- A refusal is given exactly when it is called for (specs/Refusals.antt).
 -- Assumes nothing.
-use Prim.Native.Nat.{ℕ, _*_, _≤_, _<_}
+use Prim.Native.Nat.{ℕ, _*_, _<_}
 use mathlib.Core.Path.{_≡_, refl, sym, ap, _∙_}
-use mathlib.Core.Bool.{Bool, true, false, true≢false, not}
+use mathlib.Core.Bool.{Bool, true, false, not}
 use mathlib.Core.Logic.{_⊎_, inl, inr}
 use native.Mathlib.Decide.{decLt}
 use native.Mathlib.Omega.{arith}
-use borrow.Author.Tests.{leb-true, le-leb, lt-leb, eqb-false, ne-eqb}
+use borrow.Author.Tests.{leb-true, le-leb, lt-leb}
 use Rattle.basics.specs.Exactly.{_exactly-if_}
 use lib.ListN.{length}
-use lib.Dec.{leb, eqb}
+use lib.Dec.{leb}
 use Rattle.basics.specs.Choice.{within, pick}
 use Rattle.basics.proofs.ChoiceLaws.{within-low, within-high}
-use Rattle.basics.proofs.AllLaws.{all-fails, all-missed}
 use Rattle.table.specs.declared.Level.{Level}
 use Rattle.table.specs.declared.Table.{Table}
 use Rattle.table.specs.declared.Fault.the-variants.{UnknownTask, TooShort, NoRounds, HasGroup}
@@ -22,13 +21,11 @@ use Rattle.table.specs.declared.Written.the-variants.{NotWritten}
 use Rattle.table.specs.declared.Refusal.{Refusal}
 use Rattle.table.specs.Faults.{Told, Refuses, _then_, unless}
 use Rattle.table.specs.Answers.{orWrote}
-use Rattle.table.specs.Limits.{maxResources}
-use Rattle.table.specs.At.{groupAt}
 use Rattle.table.specs.Rules.{hasGroup, hasAlpha, tableFault}
 use Rattle.table.specs.Refusals.{CallsFor}
 use Rattle.table.proofs.Deciding.{one-number, is-rule, from-rule, from-two, by-first, fails}
 use Rattle.table.proofs.RuleFacts.{range-is}
-use Rattle.table.proofs.GroupLaws.{no-group-is}
+use Rattle.table.proofs.GroupLaws.{not-true, not-false, no-group-is, group-is}
 use Rattle.table.proofs.RuleLaws.{unless-fine}
 use Rattle.table.proofs.Acceptance.{fine-accepted, accepted-fine}
 use Rattle.table.proofs.Called.{refused-as-called as table-refused}
@@ -142,29 +139,6 @@ module _ (t : Table) (needed room : ℕ) where
 
 -- ---- an archive
 
-not-false : (b : Bool) → not b ≡ false → b ≡ true
-not-false true e = refl
-not-false false e = absurd (true≢false e)
-
-not-true : (b : Bool) → not b ≡ true → b ≡ false
-not-true true e = absurd (true≢false (sym e))
-not-true false e = refl
-
--- a table that has a group has one of some resource
-group-found : (t : Table) → hasGroup (t .groups) ≡ true → (k : ℕ) × (k < maxResources) × (1 ≤ groupAt t k)
-unfolding hasGroup
-group-found t e =
-    let z = all-missed maxResources (λ k. eqb (groupAt t k) 0) (not-true _ e) in
-    let d = eqb-false (groupAt t (z .0)) 0 (z .2) in
-    (z .0, z .1, some (groupAt t (z .0)) d)
-  where
-    some : (g : ℕ) → (g ≡ 0 → ⊥) → 1 ≤ g
-    some g d = omega arith
-
-group-there : (t : Table) (k : ℕ) → k < maxResources → 1 ≤ groupAt t k → hasGroup (t .groups) ≡ true
-unfolding hasGroup
-group-there t k h l = rw (all-fails maxResources k (λ k. eqb (groupAt t k) 0) h (ne-eqb (groupAt t k) 0 (λ e. omega arith)))
-
 module _ (t : Table) (room : ℕ) where
   abbrev grouped : Checked
   grouped = unless (not (hasGroup (t .groups))) HasGroup 0
@@ -175,14 +149,14 @@ module _ (t : Table) (room : ℕ) where
       from-two (tableFault t) _ k p (λ x. ArchivingCallsFor.own (called t x))
       (λ a. from-two grouped (unless (leb (blockSize * t .n) room) TooShort 0) k p
       (from-rule (ArchivingCallsFor t room) (not (hasGroup (t .groups))) HasGroup 0 k p
-      (λ e. let z = group-found t (not-false _ e) in ArchivingCallsFor.has-group (fine-accepted t a) (z .0) (z .1) (z .2)))
+      (λ e. let z = group-is t .0 (not-false _ e) in ArchivingCallsFor.has-group (fine-accepted t a) (z .0) (z .1) (z .2)))
       (λ b. from-rule (ArchivingCallsFor t room) (leb (blockSize * t .n) room) TooShort 0 k p
       (λ e. ArchivingCallsFor.too-short (fine-accepted t a) (no-group-is t .0 (not-true _ (unless-fine _ HasGroup 0 b))) (omega (arith, fails _ (le-leb (blockSize * t .n) room) e)))))
 
   archiving-given : {k p : ℕ} → ArchivingCallsFor t room k p → Refuses (archivingFault t room) k p
   unfolding archivingFault
   archiving-given (ArchivingCallsFor.own x) = by-first (tableFault t) _ _ _ (given t x)
-  archiving-given (ArchivingCallsFor.has-group a k h l) = rw (accepted-fine t a) (by-first grouped _ 20 0 (is-rule (not (hasGroup (t .groups))) HasGroup 0 (ap not (group-there t k h l))))
+  archiving-given (ArchivingCallsFor.has-group a k h l) = rw (accepted-fine t a) (by-first grouped _ 20 0 (is-rule (not (hasGroup (t .groups))) HasGroup 0 (ap not (group-is t .1 (k, h, l)))))
   archiving-given (ArchivingCallsFor.too-short a z h) =
       rw (accepted-fine t a, no-group-is t .1 z) (is-rule _ TooShort 0 (lt-leb (blockSize * t .n) room h))
 

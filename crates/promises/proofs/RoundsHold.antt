@@ -11,7 +11,6 @@ use Rattle.table.specs.declared.Table.{Table}
 use Rattle.table.specs.declared.Checked.the-variants.{Fine}
 use Rattle.table.specs.Faults.{firstFault}
 use Rattle.table.specs.Rules.{timesInRange, timesInOrder, timesFault, isUnused, usedInRange, pairInRange, totalsFit, pairFault, pairsFault, alphaFault, taskFault, lastAlpha, tasksFault, tableFault, groupsInRange, hasGroup}
-use Rattle.table.proofs.Acceptance.{fine-accepted}
 use Rattle.table.specs.Answers.{accepted}
 use Rattle.listing.specs.Read.{readListing}
 use Rattle.theory.specs.declared.Verdict.{Verdict}

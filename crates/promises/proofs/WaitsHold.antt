@@ -29,7 +29,7 @@ use Rattle.put.proofs.TextLaws.{digits-length}
 use Rattle.listing.specs.Read.{readListing}
 use Rattle.theory.specs.declared.Counted.{Counted}
 use Rattle.theory.specs.View.{level}
-use Rattle.theory.specs.Tables.{mergedView, countedBy, countedIn}
+use Rattle.theory.specs.Tables.{mergedView, countedIn}
 use Rattle.meaning.proofs.Meaning.{passes-check}
 use Rattle.analysis.specs.Answers.{boundOf}
 use Rattle.analysis.proofs.ByRounds.{bound-known}

@@ -21,7 +21,7 @@ use Rattle.theory.specs.View.{level, ceiling}
 use Rattle.theory.specs.Demand.{sharedCT, otherCT, allCT, highCT, DB, S, O, F, L, demandWith}
 use Rattle.theory.specs.Bound.{Least}
 use Rattle.theory.specs.Rounds.{countedFrom}
-use Rattle.theory.specs.Tables.{mergedView, countedBy, countedIn}
+use Rattle.theory.specs.Tables.{mergedView, countedBy}
 use Rattle.theory.proofs.WorkLaws.{uncapped-rises, workload-window, workload-less, workload-rises, workload-grows}
 use Rattle.theory.proofs.BoundLaws.{capped-keeps}
 use Rattle.analysis.proofs.ByRounds.{bounds-runs, by-rounds}

@@ -24,7 +24,7 @@ use Rattle.meaning.specs.Meaning.{Correct, Complete, Unambiguous, PassesCheck}
 use Rattle.meaning.specs.Back.{TextFits, ReadsBack, Rewrites, SameText}
 use Rattle.promises.specs.Words.{Writes}
 
--- the demand and the deadline of a task, by its slot, counted from 0
+-- the demand, C and the deadline of a task, by its slot, counted from 0; the demand is that of the merged pairs (request 9/12), and C and D are the table's own (`one-resource` of `Groups`)
 abbrev pub demandIn : Table → ℕ → ℕ → ℕ
 demandIn t i = demandOf (mergedView t) (level i)
 

@@ -14,7 +14,7 @@
 --   Responds  what a report promises about the console: in every run on a kernel of the kind presumed, no job takes longer than its row prints
 --   Waits     request 8/12: the wait that is printed and answered, what reads alpha and what does not, and what a larger alpha does
 --   Groups    request 9/12: a group is one resource, without groups all is as before, and what else groups change and do not
---   Points    the paper's points marked P, two of them as request 3/12 has them, and the reports with request 6/12's rounds and request 8/12's column
+--   Points    the paper's points marked P, two of them as request 3/12 has them, and the reports with request 6/12's rounds, request 8/12's column and request 9/12's groups
 --   Words     what these are made of
 pub mod Words
 pub mod Refusals

@@ -56,6 +56,10 @@ points =
     ∷ reports
     "cpus 2\ntask 10 2 10\nalpha 2\nuse 1 2 0.05 0.1\ntask 20 4 20\nalpha 2\nuse 2 1 0.3 0.3\nuse 3 1 0.7 0.7\ntask 30 6 30\nalpha 2\nuse 2 1 0.4 0.4\n"
     "task verdict bound_us rounds wait_us\n1 meets 2000 1 2200\n2 meets 4400 2 400\n3 meets 12800 11 0\n"
+    -- request 9/12: locks 2 and 3 are taken together, as group 2: the bounds are those of one lock, and task 1 waits twice 700 and 400, where it is 700 and 600 without the group
+    ∷ reports
+    "cpus 2\ngroup 2 2\ngroup 2 3\ntask 10 2 10\nalpha 2\nuse 1 2 0.05 0.1\ntask 20 4 20\nalpha 2\nuse 2 1 0.6 0.6\nuse 3 1 0.7 0.7\ntask 30 6 30\nalpha 2\nuse 2 1 0.4 0.4\n"
+    "task verdict bound_us rounds wait_us\n1 meets 2000 1 2200\n2 meets 4800 2 0\n3 meets 14300 4 0\n"
     -- T 10, D 8, x 3: workload 0 at t 0, 3 at 4, 3 at 5, 5 at 7, 6 at 8
     ∷ loads 10 8 0 3 0
     ∷ loads 10 8 4 3 3

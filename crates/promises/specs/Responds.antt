@@ -23,7 +23,7 @@ use Rattle.page.specs.Report.{reportAllowance}
 use Rattle.promises.specs.Reads.{Reads}
 use Rattle.promises.specs.Rounds.{PrintsRows}
 
--- in every run of the table's tasks, its instants being k-ths of a microsecond, no job of a task that X names takes longer than so many microseconds: `NoneLonger` of `schedules`, of this table
+-- in every run of the table's tasks, in which each group is one lock, its instants being k-ths of a microsecond, no job of a task that X names takes longer than so many microseconds: `NoneLonger` of `schedules`, of this table
 abbrev pub NoJobLonger : Table → (ℕ → Type 0) → (ℕ → ℕ) → Type 0
 NoJobLonger t X micros =
     (k : ℕ) → 1 ≤ k → (J : JobSet) → Generated (finer k (mergedView t)) J → (S : Schedule) (E : ℕ) → UnderPIP (finer k (mergedView t)) J S E

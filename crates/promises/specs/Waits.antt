@@ -61,7 +61,7 @@ pub record Waits : Type 0 where
   pub printed : (s : List ℕ) (t : Table) → readListing s ≡ accepted t → (row : ℕ → Counted) × (cell : ℕ → List ℕ) × PrintsWaits s t row cell
   -- "the A largest (all, if fewer)" are summed as they are worked out, and that is the largest sum which at most A of them have, each taken once
   pub largest : LargestAgrees
-  -- "The verdicts and demand 3 do not read alpha": all that these and request 7/12 read of a table is its view, and that is the same without the alphas;
+  -- "The verdicts and demand 3 do not read alpha": all that these and request 7/12 read of a table is the view of its merged pairs, and that is the same without the alphas;
   pub unread : (t : Table) → mergedView (withoutAlpha t) ≡ mergedView t
   -- so two accepted tables that differ in alpha alone have the same verdict and rounds for each task, under every allowance
   pub verdicts : (a b : Table) → tableFault a ≡ Fine → tableFault b ≡ Fine → SameButAlpha a b → (i allowance : ℕ) → i < a .n

@@ -17,7 +17,7 @@ use Rattle.table.specs.declared.Table.{Table}
 use Rattle.table.specs.declared.Fault.the-variants.{OutOfRange, BadTimes, TooManyTasks, NoTask, AlphaMissing, AlphaRises}
 use Rattle.table.specs.declared.Checked.the-variants.{Fine}
 use Rattle.table.specs.Limits.{maxCpus, maxTasks, maxResources, maxAlpha}
-use Rattle.table.specs.At.{taskAt, alphaAt, pairOf, totalOf}
+use Rattle.table.specs.At.{taskAt, pairOf, totalOf}
 use Rattle.table.specs.Faults.{_then_, unless}
 use Rattle.table.specs.Rules.{timesInRange, timesInOrder, allOrNone, mayFollow, alphaFault, pairFaultOf, pairsFault, taskFault, alphasTo, lastAlpha, taskFaultAt, tasksFault, tableFault, groupsInRange}
 use Rattle.table.specs.Accepted.{GoodTimes, GoodTo, GoodTask, Accepted}

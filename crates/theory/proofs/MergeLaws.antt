@@ -11,7 +11,7 @@ use borrow.Author.Tests.{eqb-true, eqb-false, eq-eqb, ne-eqb, lt-ltb}
 use lib.Dec.{eqb, ltb}
 use lib.ListN.{getD}
 use Rattle.basics.specs.Choice.{pick, only}
-use Rattle.basics.specs.Over.{sumTo, maxTo, firstTo, rowTo}
+use Rattle.basics.specs.Over.{sumTo, maxTo}
 use Rattle.basics.proofs.ChoiceLaws.{only-below}
 use Rattle.basics.proofs.SumLaws.{sum-eq, sum-bound, sum-some, sum-single, sum-slots}
 use Rattle.basics.proofs.MaxLaws.{max-eq, max-bound, max-single}
@@ -26,12 +26,12 @@ use Rattle.table.specs.Limits.{maxTasks, maxResources, maxTime, maxCount}
 use Rattle.table.specs.Empty.{unusedPair, emptyTask}
 use Rattle.table.specs.At.{noTask, aPair, taskAt, groupAt, NoGroup, pairOf, pairAt, totalOf}
 use Rattle.table.specs.Rules.{hasGroup, tableFault}
-use Rattle.table.specs.Accepted.{GoodTask, Accepted}
+use Rattle.table.specs.Accepted.{GoodTask}
 use Rattle.table.proofs.Acceptance.{fine-accepted}
 use Rattle.table.proofs.GroupLaws.{no-group-is}
 use Rattle.table.proofs.RuleLaws.{pair-bounds}
 use Rattle.theory.specs.Merge.{slotOf, partAt, mergedPair, mergedTask, groupedTasks, mergedTasks, merged}
-use Rattle.theory.specs.Groups.{memberOf, groupPair, MergedPairs, MergedAgrees, maxRequests, TaskInBounds, InBounds}
+use Rattle.theory.specs.Groups.{MergedAgrees, TaskInBounds, InBounds}
 
 -- a pair by its figures
 pair-is : {a b : Pair} → a .requests ≡ b .requests → a .longest ≡ b .longest → a .total ≡ b .total → a ≡ b
@@ -204,7 +204,11 @@ module _ (t : Table) where
 pub merged-agrees : MergedAgrees
 merged-agrees t i e h =
     let most : i < maxTasks = omega (arith, fine-accepted t e .tasks-most) in
+    let m = merged-task t i h most in
     record {
+      period = m .period;
+      run = m .run;
+      deadline = m .deadline;
       first = λ k q some before. merged-pair t i k h most q ∙ by-test (t .groups) (taskAt t i) k (λ j. eqb (groupAt t j) (groupAt t k)) (λ j l. slot-first (t .groups) j k l q some before);
       other = λ j k q some l same. merged-pair t i k h most q ∙ pair-other (t .groups) (taskAt t i) j k some l same;
       alone = λ k q z. merged-pair t i k h most q ∙ pair-alone (t .groups) (taskAt t i) k q z;

@@ -1,7 +1,6 @@
 -- Request 9/12 of document 02: the merged pairs said a second way, without slots; and what holds of those of an accepted table.
 use Prim.Native.Nat.{ℕ, _*_, _≤_, _<_}
 use mathlib.Core.Path.{_≡_}
-use mathlib.Core.List.{List}
 use lib.Dec.{eqb}
 use Rattle.basics.specs.Choice.{only}
 use Rattle.basics.specs.Over.{sumTo, maxTo}
@@ -27,8 +26,12 @@ groupPair t i G =
     (maxTo maxResources (memberOf t G (λ j. pairAt t i j .longest)))
     (sumTo maxResources (memberOf t G (totalOf (taskAt t i))))
 
--- what task i + 1 of an accepted table asks of its locks, as the analysis reads them
+-- task i + 1 of an accepted table, as the analysis reads it, and what it asks of its locks
 pub record MergedPairs (t : Table) (i : ℕ) : Type 0 where
+  -- its times are as they are
+  pub period : taskAt (merged t) i .period ≡ taskAt t i .period
+  pub run : taskAt (merged t) i .run ≡ taskAt t i .run
+  pub deadline : taskAt (merged t) i .deadline ≡ taskAt t i .deadline
   -- a group's figures stand once, in the place of its first member, ..
   pub first : (k : ℕ) → k < maxResources → 1 ≤ groupAt t k → ((j : ℕ) → j < k → groupAt t j ≡ groupAt t k → ⊥) → pairAt (merged t) i k ≡ groupPair t i (groupAt t k)
   -- .. and nothing in the place of another

@@ -1,7 +1,7 @@
 -- Of a table whose first task has no alpha there are no waits, be it accepted or not; and the waits by the merged pairs of an accepted one are its own.
 -- Assumes nothing.
 use Prim.Native.Nat.{ℕ, _<_}
-use mathlib.Core.Path.{_≡_, refl, ap, _∙_}
+use mathlib.Core.Path.{_≡_, refl, ap}
 use mathlib.Core.Bool.{Bool, true, false}
 use borrow.Author.Tests.{ltb-true}
 use lib.Dec.{ltb}

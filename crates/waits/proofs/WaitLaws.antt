@@ -7,7 +7,7 @@ use native.Mathlib.Nat.{le-refl, le-trans}
 use native.Mathlib.Omega.{arith}
 use borrow.Author.Tests.{lt-ltb, le-ltb}
 use lib.Dec.{leb}
-use lib.ListN.{length, take, set, replicate}
+use lib.ListN.{length, take, set}
 use Rattle.basics.specs.Choice.{pick, only}
 use Rattle.basics.specs.Over.{rowTo}
 use Rattle.basics.specs.Largest.{falling, sumOf, sumLargest}

@@ -1,6 +1,6 @@
 -- What is answered of the waits of a table (request 8/12 of document 02): of one task, and of all.
 use Prim.Native.Nat.{ℕ, pred}
-use mathlib.Core.Bool.{true, false}
+use mathlib.Core.Bool.{false}
 use mathlib.Core.List.{List}
 use lib.Dec.{ltb}
 use lib.ListN.{replicate}

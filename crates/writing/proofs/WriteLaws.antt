@@ -22,7 +22,7 @@ use Rattle.table.specs.declared.Pair.{Pair}
 use Rattle.table.specs.declared.Task.{Task}
 use Rattle.table.specs.declared.Table.{Table}
 use Rattle.table.specs.At.{taskAt}
-use Rattle.writing.specs.Write.{useText, timesText, alphaText, ownText, taskText, groupText, headText}
+use Rattle.writing.specs.Write.{useText, timesText, alphaText, taskText, groupText, headText}
 
 -- ---- texts f 0, f 1, .., one after the other, behind h
 

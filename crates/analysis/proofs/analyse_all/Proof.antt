@@ -1,5 +1,5 @@
 -- `analysis::analyse_all` meets its contract. The loop's invariant: the first k records are written, and past them the row is as it was. Assumes nothing.
-use Prim.Native.Nat.{ℕ, _-_, _≤_}
+use Prim.Native.Nat.{_-_, _≤_}
 use mathlib.Core.Path.{_≡_, sym, ap, _∙_}
 use mathlib.Core.List.{_++_}
 use native.Mathlib.Omega.{arith}
@@ -14,7 +14,7 @@ use Rattle.table.specs.Limits.{maxTasks}
 use Rattle.table.specs.Faults.{_then_}
 use Rattle.theory.specs.Tables.{viewOf}
 use Rattle.theory.specs.Merge.{merged}
-use Rattle.analysis.specs.Answers.{allowanceFault, rowFault, analysisFault, recordBy, recordOf}
+use Rattle.analysis.specs.Answers.{allowanceFault, rowFault, analysisFault, recordBy}
 use Rattle.analysis.proofs.RowLaws.{fits, row-fine, row-refused}
 use Rattle.merging.proofs.ReadLaws.{read-own, read-merged, read-asks}
 use Rattle.analysis.proofs.analyse_all.Statement.{statement}
