@@ -36,7 +36,7 @@ use Rattle.theory.specs.Groups.{InBounds}
 use Rattle.theory.specs.Tables.{viewOf}
 use Rattle.merging.proofs.ReadLaws.{read-merged, read-asks}
 use Rattle.analysis.specs.declared.Record.{Record}
-use Rattle.analysis.specs.Answers.{allowanceFault, boundFault, analysisFault, orNone, recordCount, recordBy, recordOf, readTable, analysed}
+use Rattle.analysis.specs.Answers.{allowanceFault, boundFault, analysisFault, orNone, recordCount, recordBy, recordOf, tableRead, analysed}
 
 -- ---- one task
 
@@ -125,7 +125,7 @@ module _ (t : Table) (allowance : ℕ) (ys : List Record) where
 
 -- ---- the table that is read
 
-module _ (t : Table) {m : Table} (i : ℕ) (read : m ≡ readTable t) where
+module _ (t : Table) {m : Table} (i : ℕ) (read : m ≡ tableRead t) where
   pub asks-read : (tableFault t ≡ Fine) × (i < t .n) → InBounds m × (i < m .n)
   asks-read a = rw read (read-asks t refl (a .0) (a .1))
 

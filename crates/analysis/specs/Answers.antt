@@ -68,8 +68,8 @@ abbrev pub recordOf : Table → ℕ → ℕ → Record
 recordOf t allowance i = recordBy (mergedView t) allowance i
 
 -- the table that is read: of one that is refused, none
-abbrev pub readTable : Table → Table
-readTable t = orTable (tableFault t) (merged t) .table
+abbrev pub tableRead : Table → Table
+tableRead t = orTable (tableFault t) (merged t) .table
 
 -- a record of no task: what a row's reader has past its end, and what a row may hold before
 abbrev pub noRecord : Record

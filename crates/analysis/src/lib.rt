@@ -7,7 +7,7 @@ ghost use Rattle.table.specs.Rules.{askedFault};
 ghost use Rattle.theory.specs.View.{level};
 ghost use Rattle.theory.specs.Groups.{InBounds};
 ghost use Rattle.theory.specs.Tables.{viewOf, countedBy};
-ghost use Rattle.analysis.specs.Answers.{allowanceFault, rowFault, boundOf, analysisFault, recordCount, recordBy, readTable, analysed, FillsRow};
+ghost use Rattle.analysis.specs.Answers.{allowanceFault, rowFault, boundOf, analysisFault, recordCount, recordBy, tableRead, analysed, FillsRow};
 use rounds::Outcome;
 use table::Checked;
 use table::Fault;
@@ -94,7 +94,7 @@ fn check_row(n: usize, room: usize) -> Checked
     Checked::Fine
 }
 
-// What is said against a table, by itself and of so many tasks, a task of it and an allowance.
+// What is said against a table: its own refusal, then of a task among n, then of an allowance.
 fn judge_task(own: Checked, n: usize, task: Level, allowance: u32) -> Checked
     ensures { λ r. ⌜ r ≡ (own then askedFault n task then allowanceFault allowance) ⌝ }
 {
@@ -117,7 +117,7 @@ pub fn bound(t: Table, task: Level, allowance: u32) -> Answer
     Answer::Known(counted_at(m, allowance, number - 1))
 }
 
-// What is said against a table, by itself and of so many tasks, an allowance and a row of so many records.
+// What is said against a table: its own refusal, then of an allowance, then of a row of so many records for n tasks.
 fn judged(own: Checked, n: usize, allowance: u32, room: usize) -> Checked
     ensures { λ r. ⌜ r ≡ (own then allowanceFault allowance then rowFault n room) ⌝ }
 {
@@ -126,6 +126,7 @@ fn judged(own: Checked, n: usize, allowance: u32, room: usize) -> Checked
     rules::first_of(own, rules::first_of(allowed, fits))
 }
 
+// The same of a table that is still to be checked.
 fn judge(t: Table, allowance: u32, room: usize) -> Checked
     ensures { λ r. ⌜ r ≡ analysisFault t allowance room ⌝ }
 {
@@ -145,7 +146,7 @@ fn todo(t: Table, allowance: u32, room: usize) -> usize
 
 // The table that is read: of one that is refused, none.
 fn table_read(t: Table) -> Table
-    ensures { λ r. ⌜ r ≡ readTable t ⌝ }
+    ensures { λ r. ⌜ r ≡ tableRead t ⌝ }
 {
     let read = merging::merge(t);
     read.table

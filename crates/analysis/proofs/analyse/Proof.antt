@@ -68,7 +68,7 @@ use Rattle.basics.specs.Over.{rowTo}
 use Rattle.basics.proofs.RowLaws.{over-length, over-more, over-none}
 use Rattle.theory.specs.Groups.{InBounds}
 use Rattle.theory.specs.Tables.{viewOf}
-use Rattle.analysis.specs.Answers.{analysisFault, recordCount, recordBy, recordOf, readTable, analysed}
+use Rattle.analysis.specs.Answers.{analysisFault, recordCount, recordBy, recordOf, tableRead, analysed}
 use Rattle.analysis.proofs.RowLaws.{count-room, count-most, count-asks, row-last, asks-read, record-read}
 use Rattle.analysis.proofs.Record as T
 use Rattle.analysis.proofs.Record.Laws as T′
@@ -132,8 +132,8 @@ module _ {M : Type 1} (𝓤 : URA M) (H : Heap 𝓤) (A : Atoms 𝓤) (mem : Mem
   todo-of : (t : Table) (allowance i r : ℕ) → ent 𝓤 (ensured 𝓤 H A todo.ended (todo.clauses 𝓤 H A mem run) tt (t, (allowance, (i, tt))) tt r) (fact 𝓤 (r ≡ recordCount t allowance i))
   todo-of t allowance i r = exE 𝓤 _ (λ ws. snd∗ 𝓤 (sem 𝓤 H A (lasts todo.ended tt (t, (allowance, (i, tt))) ws)) (fact 𝓤 (r ≡ recordCount t allowance i)))
 
-  read-of : (t r : Table) → ent 𝓤 (ensured 𝓤 H A table-read.ended (table-read.clauses 𝓤 H A mem run) tt (t, tt) tt r) (fact 𝓤 (r ≡ readTable t))
-  read-of t r = exE 𝓤 _ (λ ws. snd∗ 𝓤 (sem 𝓤 H A (lasts table-read.ended tt (t, tt) ws)) (fact 𝓤 (r ≡ readTable t)))
+  read-of : (t r : Table) → ent 𝓤 (ensured 𝓤 H A table-read.ended (table-read.clauses 𝓤 H A mem run) tt (t, tt) tt r) (fact 𝓤 (r ≡ tableRead t))
+  read-of t r = exE 𝓤 _ (λ ws. snd∗ 𝓤 (sem 𝓤 H A (lasts table-read.ended tt (t, tt) ws)) (fact 𝓤 (r ≡ tableRead t)))
 
   judge-of : (t : Table) (allowance i : ℕ) (r : Checked) → ent 𝓤 (ensured 𝓤 H A judge.ended (judge.clauses 𝓤 H A mem run) tt (t, (allowance, (i, tt))) tt r) (fact 𝓤 (r ≡ analysisFault t allowance i))
   judge-of t allowance i r = exE 𝓤 _ (λ ws. snd∗ 𝓤 (sem 𝓤 H A (lasts judge.ended tt (t, (allowance, (i, tt))) ws)) (fact 𝓤 (r ≡ analysisFault t allowance i)))
@@ -280,7 +280,7 @@ module _ {M : Type 1} (𝓤 : URA M) (H : Heap 𝓤) (A : Atoms 𝓤) (W : Given
     Turned v i = afterTurn 𝓤 H (Below 𝓤 H A Nearer (At v) i) (afterBlock 𝓤 H (afterSeq 𝓤 H (Wp 𝓤 H C Λ En mir′.t-6 (atReturn 𝓤 H En Post)) (atReturn 𝓤 H En Post)))
 
     -- the table m that is read, and its machine value: known only after the call of `table_read`
-    module _ (m : Table) (v : Val) (m-is : Is B.the-row m (v ∷ [])) (is-read : m ≡ readTable t) where
+    module _ (m : Table) (v : Val) (m-is : Is B.the-row m (v ∷ [])) (is-read : m ≡ tableRead t) where
       turn-by : (i : Upto) (y : Bool) → ltb (i .0) N ≡ y → Sq W (At v i) (runs C Λ En mir′.turn-1 (anyQ (Turned v i)))
       unfolding afterTurn
       turn-by i true e =
@@ -367,7 +367,7 @@ module _ {M : Type 1} (𝓤 : URA M) (H : Heap 𝓤) (A : Atoms 𝓤) (W : Given
         use0 W (raw (TableRead 𝓤 H A mem run .pre to-read)) goes-read $
         calls-at ! fm (TableRead 𝓤 H A mem run) known-read to-read (and-then ! (load ! (from ! (stop !)) (look ! 24 refl)) (no-more !)) (λ v.
         use1 W (later (some (λ (m : Table). (‵ ftrue ⊛ ‵ (B.the-row .own m (v ∷ []))) ⊛ raw (ensured 𝓤 H A table-read.ended (table-read.clauses 𝓤 H A mem run) tt (t, tt) tt m)))) (id⊢ 𝓤 _) $ await ! tt $ pick ! (λ m.
-        split ! $ move ! (1 ∷ []) $ use1 W (raw (fact 𝓤 (m ≡ readTable t))) (read-of 𝓤 H A mem run t m) $ heard ! (m ≡ readTable t) (λ is-read.
+        split ! $ move ! (1 ∷ []) $ use1 W (raw (fact 𝓤 (m ≡ tableRead t))) (read-of 𝓤 H A mem run t m) $ heard ! (m ≡ tableRead t) (λ is-read.
         split ! $ drop ! $ facts ! B.the-row (Is B.the-row) (shows 𝓤 H A B.the-row) m (v ∷ []) (λ m-is.
         land ! (from ! (stop !)) (init ! 13 refl (typed-table m v m-is)) $
         assigns ! (of-opd ! (lit ! tt)) (from ! (stop !)) (init ! 11 refl (tt, record { fits = lit< tt })) $ opens-slice ! tt T.the-row ys b o $
