@@ -1,7 +1,6 @@
 // A listing's bytes to an archive's.
 ghost use Rattle.std.specs.Prelude.{◌≡◌, ◌≤◌, length};
-ghost use Rattle.card.specs.Archive.{max_archive};
-ghost use Rattle.archive.specs.Archiving.{from_listing, with_archive};
+ghost use Rattle.archive.specs.Archiving.{max_archive, from_listing, with_archive};
 
 use table::{Checked, Written};
 
@@ -15,6 +14,5 @@ pub(crate) fn archive(listing: &[u8], out: &mut [u8]) -> Written
     if let Checked::Refused(f) = answer {
         return Written::NotWritten(f);
     }
-    let groups = r.table.groups;
-    card::write(card::version_for(groups), r.table, out)
+    card::write(r.table, out)
 }

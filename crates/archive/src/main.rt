@@ -1,10 +1,14 @@
 // Reads a listing from standard input and writes the archive of its table; refused, nothing but the refusal, to standard error, so that no half archive can be mistaken for one.
+use block::SIZE;
 use console::Input;
 use libc::{STDERR_FILENO, STDOUT_FILENO};
 use refusal::Source;
 use table::{Table, Written};
 
 mod bytes;
+
+// The longest archive.
+const MAX_ARCHIVE: usize = Table::MAX_TASKS * SIZE;
 
 fn main() {
     // one byte past the limit, to know that a listing is too long
@@ -13,7 +17,7 @@ fn main() {
         io::write_all(STDERR_FILENO, b"archive: the input could not be read\n");
         return;
     };
-    let mut out = [0u8; card::MAX_ARCHIVE];
+    let mut out = [0u8; MAX_ARCHIVE];
     match bytes::archive(&space[..n], &mut out) {
         Written::Wrote(length) => {
             if !io::write_all(STDOUT_FILENO, &out[..length]) {

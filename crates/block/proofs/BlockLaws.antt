@@ -12,7 +12,7 @@ use Rattle.table.specs.declared.Task.{Task}
 use Rattle.checksum.specs.Sum.{check_of}
 use Rattle.block.specs.declared.Head.{Head}
 use Rattle.block.specs.Numbers.{in_bytes}
-use Rattle.block.specs.Block.{head_bytes, times_bytes, entry_bytes, entries_bytes, groups_bytes, body_of, block_of}
+use Rattle.block.specs.Block.{head_bytes, times_bytes, entry_bytes, entries_bytes, body_of, block_of}
 use Rattle.block.proofs.NumberLaws.{bytes_length}
 
 -- ---- lengths
@@ -33,14 +33,10 @@ pub entries_length : (x : Task) → length (entries_bytes x) ≡ 160
 unfolding entries_bytes entry_bytes in_bytes join_to
 entries_length x = refl
 
-pub groups_length : (h : Head) → length (groups_bytes h) ≡ 16
-unfolding groups_bytes in_bytes join_to
-groups_length h = refl
-
 pub body_length : (h : Head) (x : Task) → length (body_of h x) ≡ 510
 unfolding body_of
 body_length h x =
-    simp length-append (omega (arith, head_length h, times_length x, entries_length x, groups_length h, length-replicate {A = ℕ} 314 0))
+    simp length-append (omega (arith, head_length h, times_length x, entries_length x, length-replicate {A = ℕ} 330 0))
 
 pub block_length : (h : Head) (x : Task) → length (block_of h x) ≡ 512
 unfolding block_of

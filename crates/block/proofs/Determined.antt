@@ -3,23 +3,10 @@
 use mathlib.Core.Path.{sym, ◌∙◌}
 use contract.Lifetimes.{Lfts}
 use Rattle.basics.specs.Determined.{Determined, DeterminedWith}
-use Rattle.block.proofs.Version.byte.Reads as version_byte_reads
-use Rattle.block.proofs.Version.other.Reads as version_other
-use Rattle.block.proofs.Takes.takes.Reads as takes_version
 use Rattle.block.proofs.put_block.Reads as put_block
 use Rattle.block.proofs.is_good.Reads as is_good
 use Rattle.block.proofs.head_of.Reads as head_of
-use Rattle.block.proofs.agree.Reads as agree
 use Rattle.block.proofs.task_of.Reads as task_of
-
-pub version_byte_determined : Determined (version_byte_reads.Learnt tt)
-version_byte_determined a x y r s p q = p ∙ sym q
-
-pub version_other_determined : Determined (version_other.Learnt tt)
-version_other_determined a x y r s p q = p ∙ sym q
-
-pub takes_determined : Determined (takes_version.Learnt tt)
-takes_determined a x y r s p q = p ∙ sym q
 
 pub put_block_determined : (κs : Lfts 1) → DeterminedWith (λ x. x.0.now) (put_block.Learnt κs)
 put_block_determined κs a x y r s p q = (p.0 ∙ sym q.0, p.1 ∙ sym q.1)
@@ -29,9 +16,6 @@ is_good_determined κs a x y r s p q = p ∙ sym q
 
 pub head_of_determined : (κs : Lfts 1) → Determined (head_of.Learnt κs)
 head_of_determined κs a x y r s p q = p ∙ sym q
-
-pub agree_determined : Determined (agree.Learnt tt)
-agree_determined a x y r s p q = p ∙ sym q
 
 pub task_of_determined : (κs : Lfts 1) → Determined (task_of.Learnt κs)
 task_of_determined κs a x y r s p q = p ∙ sym q

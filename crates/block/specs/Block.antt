@@ -1,17 +1,11 @@
--- Requests 2/12 and 10/12 of document 02: a block, in the order of their sentences. "Block i holds task i, numbers big-endian"; "Version 2 is version 1 with version byte 2 and, at bytes 180 to 195 of every block,
--- the group of resources 1 to 16, 0 for none". So there is one definition: a block of version 1 has zeros where one of version 2 has the groups.
-use Rattle.std.specs.Prelude.{ℕ, ◌+◌, ◌-◌, ◌*◌, Bool, ◌&&◌, List, ◌∷◌, ◌++◌, length, take, get_or, replicate, eqb}
-use Rattle.basics.specs.Choice.{pick, within}
+-- Request 2/12 of document 02: a block, in the order of its sentence. "Block i holds task i, numbers big-endian".
+use Rattle.std.specs.Prelude.{ℕ, ◌+◌, ◌*◌, Bool, ◌&&◌, List, ◌∷◌, ◌++◌, length, take, replicate, eqb}
 use Rattle.basics.specs.Over.{all_to, join_to, row_to}
 use Rattle.table.specs.declared.Pair.{Pair}
 use Rattle.table.specs.declared.Task.{Task}
 use Rattle.table.specs.Limits.{max_resources}
 use Rattle.table.specs.At.{a_pair, a_task, pair_of}
 use Rattle.checksum.specs.Sum.{check_of}
-use Rattle.block.specs.declared.Version.{Version}
-use Rattle.block.specs.declared.Version.TheVariants.{One, Two}
-use Rattle.block.specs.declared.Takes.{Takes}
-use Rattle.block.specs.declared.Takes.TheVariants.{Only, Both}
 use Rattle.block.specs.declared.Head.{Head}
 use Rattle.block.specs.Numbers.{in_bytes, byte_at, number_at}
 
@@ -19,20 +13,11 @@ use Rattle.block.specs.Numbers.{in_bytes, byte_at, number_at}
 abbrev pub block_size : ℕ
 block_size = 512
 
--- "version 1", and "version byte 2"
-abbrev pub version_byte : Version → ℕ
-version_byte One = 1
-version_byte Two = 2
-
-abbrev pub other_version : Version → Version
-other_version One = Two
-other_version Two = One
-
 -- ---- a block as it is written
 
--- "bytes 0 and 1 are hex 54 42; byte 2 is version 1" or 2; "3 processors; 4 n; 5 the task number; 6 and 7 zero"
+-- "bytes 0 and 1 are hex 54 42; byte 2 is version 1; 3 processors; 4 n; 5 the task number; 6 and 7 zero"
 unfoldable pub head_bytes : Head → List ℕ
-head_bytes h = 0x54 ∷ 0x42 ∷ in_bytes 1 h.version ++ in_bytes 1 h.cpus ++ in_bytes 1 h.n ++ in_bytes 1 h.number ++ in_bytes 2 0
+head_bytes h = 0x54 ∷ 0x42 ∷ in_bytes 1 1 ++ in_bytes 1 h.cpus ++ in_bytes 1 h.n ++ in_bytes 1 h.number ++ in_bytes 2 0
 
 -- "8, 12 and 16 T, C, D in four bytes each"
 unfoldable pub times_bytes : Task → List ℕ
@@ -45,17 +30,9 @@ entry_bytes p = in_bytes 2 p.requests ++ in_bytes 4 p.longest ++ in_bytes 4 p.to
 unfoldable pub entries_bytes : Task → List ℕ
 entries_bytes x = join_to max_resources (λ k. entry_bytes (pair_of x k))
 
--- the group of resource k + 1 that a block says, 0 for none
-abbrev pub group_on : Head → ℕ → ℕ
-group_on h k = get_or h.groups k 0
-
--- "at bytes 180 to 195 of every block, the group of resources 1 to 16"
-unfoldable pub groups_bytes : Head → List ℕ
-groups_bytes h = join_to max_resources (λ k. in_bytes 1 (group_on h k))
-
--- "zeros to 509", from 196
+-- "zeros to 509", from 180
 unfoldable pub body_of : Head → Task → List ℕ
-body_of h x = head_bytes h ++ times_bytes x ++ entries_bytes x ++ groups_bytes h ++ replicate 314 0
+body_of h x = head_bytes h ++ times_bytes x ++ entries_bytes x ++ replicate 330 0
 
 -- "510 and 511 the RFC 1071 checksum of the first 510 bytes"
 unfoldable pub block_of : Head → Task → List ℕ
@@ -66,33 +43,16 @@ block_of h x = body_of h x ++ in_bytes 2 (check_of (body_of h x))
 abbrev pub zeros_at : List ℕ → ℕ → ℕ → Bool
 zeros_at s at k = all_to k (λ j. eqb (byte_at s (at + j)) 0)
 
--- a reader takes a version byte: "The reader takes both", "the version 1 reader refuses version 2 under 13", and the one of version 2 refuses version 1
-abbrev pub takes : Takes → ℕ → Bool
-takes (Only v) b = eqb b (version_byte v)
-takes Both b = within 1 2 b
-
--- where the zeros begin that end at 509, by the version byte: behind the groups in version 2
-unfoldable pub zeros_from : ℕ → ℕ
-zeros_from v = pick (eqb v 2) 196 180
-
--- 13 is "a wrong check, mark, version or zero": the mark, the version, and the zeros of the block's own version
-unfoldable pub marked_block : Takes → List ℕ → Bool
-marked_block w s =
-    eqb (byte_at s 0) 0x54 && eqb (byte_at s 1) 0x42 && takes w (byte_at s 2) && zeros_at s 6 2
-    && zeros_at s (zeros_from (byte_at s 2)) (510 - zeros_from (byte_at s 2))
+-- 13 is "a wrong check, mark, version or zero": the mark, the version and the zeros
+unfoldable pub marked_block : List ℕ → Bool
+marked_block s = eqb (byte_at s 0) 0x54 && eqb (byte_at s 1) 0x42 && eqb (byte_at s 2) 1 && zeros_at s 6 2 && zeros_at s 180 330
 
 -- and the check, of a whole block: bytes 510 and 511 equal it, and do not only complete it: hex 0000 and FFFF are two ways to complete one sum
-unfoldable pub good_block : Takes → List ℕ → Bool
-good_block w s = eqb (length s) block_size && eqb (number_at s 510 2) (check_of (take 510 s)) && marked_block w s
+unfoldable pub good_block : List ℕ → Bool
+good_block s = eqb (length s) block_size && eqb (number_at s 510 2) (check_of (take 510 s)) && marked_block s
 
 unfoldable pub head_in : List ℕ → Head
-head_in s = record { version = byte_at s 2; cpus = byte_at s 3; n = byte_at s 4; number = byte_at s 5; groups = row_to max_resources (λ k. byte_at s (180 + k)) }
-
--- what the blocks of one archive agree on: "processors or n not block 1's" is 14, and "a block whose version or groups are not those of block 1 falls under 14"
-unfoldable pub agree : Head → Head → Bool
-agree first h =
-    eqb h.version first.version && eqb h.cpus first.cpus && eqb h.n first.n
-    && all_to max_resources (λ k. eqb (group_on h k) (group_on first k))
+head_in s = record { cpus = byte_at s 3; n = byte_at s 4; number = byte_at s 5 }
 
 -- resource k + 1
 unfoldable pub pair_in : List ℕ → ℕ → Pair

@@ -1,12 +1,9 @@
 // Numbers, zeros and pairs at places of a block.
-ghost use Rattle.std.specs.Prelude.{◌≡◌, ℕ, ◌+◌, ◌≤◌, ◌<◌, length};
-ghost use Rattle.basics.specs.Exactly.{◌exactly_if◌};
-ghost use Rattle.basics.specs.Over.{row_to};
+ghost use Rattle.std.specs.Prelude.{◌≡◌, ◌+◌, ◌≤◌, ◌<◌, length};
 ghost use Rattle.table.specs.Limits.{max_resources};
 ghost use Rattle.block.specs.Numbers.{byte_at, number_at};
 ghost use Rattle.block.specs.Block.{block_size, zeros_at, marked_block, pair_in, task_in};
 
-use crate::Takes;
 use table::{Pair, Table, Task};
 
 // The byte at a place; 0 past the end.
@@ -57,9 +54,9 @@ fn zeros(s: &[u8], at: usize, k: usize) -> bool
 }
 
 // The mark, the version and the zeros.
-pub(crate) fn is_marked(w: Takes, s: &[u8]) -> bool
+pub(crate) fn is_marked(s: &[u8]) -> bool
     requires { length s.now ≡ block_size }
-    ensures { result ≡ marked_block w s.now }
+    ensures { result ≡ marked_block s.now }
 {
     if byte(s, 0) != 0x54 {
         return false;
@@ -67,45 +64,13 @@ pub(crate) fn is_marked(w: Takes, s: &[u8]) -> bool
     if byte(s, 1) != 0x42 {
         return false;
     }
-    let version = byte(s, 2);
-    if !w.takes(version) {
+    if byte(s, 2) != 1 {
         return false;
     }
     if !zeros(s, 6, 2) {
         return false;
     }
-    // each with its own constants, which the compiler makes a quicker loop of
-    if version == 2 {
-        return zeros(s, 196, 314);
-    }
     zeros(s, 180, 330)
-}
-
-// How many of the sixteen bytes from 180 on there are.
-fn in_reach(length: usize) -> usize
-    ensures { (result ≤ max_resources) × ((k : ℕ) → k < max_resources → (k < result) exactly_if (180 + k < length)) }
-{
-    if length < 180 {
-        return 0;
-    }
-    if 196 <= length {
-        return Table::MAX_RESOURCES;
-    }
-    length - 180
-}
-
-// The group of each resource.
-pub(crate) fn groups(s: &[u8]) -> [u32; Table::MAX_RESOURCES]
-    ensures { result ≡ row_to max_resources (λ k. byte_at s.now (180 + k)) }
-{
-    let mut groups = [0u32; Table::MAX_RESOURCES];
-    let n = in_reach(s.len());
-    let mut k: usize = 0;
-    while k < n {
-        groups[k] = s[180 + k] as u32;
-        k += 1;
-    }
-    groups
 }
 
 // The entry of resource k + 1.

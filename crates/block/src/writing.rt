@@ -1,7 +1,7 @@
 // The fields of a block, each at the start of an output that has the room.
 ghost use Rattle.std.specs.Prelude.{◌≡◌, ◌++◌, ◌≤◌, length, drop, replicate};
 ghost use Rattle.block.specs.Numbers.{in_bytes};
-ghost use Rattle.block.specs.Block.{block_size, head_bytes, times_bytes, entry_bytes, entries_bytes, groups_bytes, body_of, block_of};
+ghost use Rattle.block.specs.Block.{block_size, head_bytes, times_bytes, entry_bytes, entries_bytes, body_of, block_of};
 
 use crate::Head;
 use table::{Pair, Table, Task};
@@ -45,14 +45,14 @@ fn put_zeros(out: &mut [u8], k: usize)
     }
 }
 
-// The mark, what the block says besides its task and the groups, and two zeros.
+// The mark, the version, what the block says besides its task, and two zeros.
 fn put_head(out: &mut [u8], h: Head)
     requires { 8 ≤ length out.old }
     ensures { out.new ≡ head_bytes h ++ drop 8 out.old }
 {
     out[0] = 0x54;
     out[1] = 0x42;
-    out[2] = (h.version % 256) as u8;
+    out[2] = 1;
     out[3] = (h.cpus % 256) as u8;
     out[4] = (h.n % 256) as u8;
     out[5] = (h.number % 256) as u8;
@@ -93,18 +93,6 @@ fn put_entries(out: &mut [u8], x: Task)
     }
 }
 
-// The group of each resource, a byte.
-fn put_groups(out: &mut [u8], h: Head)
-    requires { 16 ≤ length out.old }
-    ensures { out.new ≡ groups_bytes h ++ drop 16 out.old }
-{
-    let mut k: usize = 0;
-    while k < Table::MAX_RESOURCES {
-        out[k] = (h.groups[k] % 256) as u8;
-        k += 1;
-    }
-}
-
 // All that the check is over.
 fn put_body(out: &mut [u8], h: Head, x: Task)
     requires { 510 ≤ length out.old }
@@ -113,8 +101,7 @@ fn put_body(out: &mut [u8], h: Head, x: Task)
     put_head(out, h);
     put_times(&mut out[8..], x);
     put_entries(&mut out[20..], x);
-    put_groups(&mut out[180..], h);
-    put_zeros(&mut out[196..], 314);
+    put_zeros(&mut out[180..], 330);
 }
 
 // The body, and its check.

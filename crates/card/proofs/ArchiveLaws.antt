@@ -1,11 +1,10 @@
--- The blocks of an archive, as they are handed on and as they were joined; the table that is filled from them, and the blocks that are put.
+-- The blocks of an archive as they are handed on, the table that is filled from them, and the blocks that are put.
 -- Assumes nothing.
 use Prim.Native.Nat.{ℕ, ◌+◌, ◌-◌, ◌*◌, ◌/◌, ◌%◌, ◌≤◌, ◌<◌}
 use mathlib.Core.Path.{◌≡◌, sym, ◌∙◌}
 use mathlib.Core.List.{List, ◌++◌}
 use native.Mathlib.Omega.{arith}
-use lib.ListN.{length, set, take, drop, replicate, length-drop, length-replicate}
-use lib.Seq.{length-take-le, get_or-take, get_or-drop, ext_get_or}
+use lib.ListN.{length, set, take, drop, replicate, length-replicate}
 use lib.Dec.{leb, eqb}
 use borrow.Author.Tests.{le-leb, eqb-true}
 use mathlib.Core.Bool.{true}
@@ -13,45 +12,33 @@ use Rattle.basics.specs.Choice.{within}
 use Rattle.basics.specs.Over.{join_to, row_to}
 use Rattle.basics.specs.Text.{put_into}
 use Rattle.basics.proofs.RowLaws.{over_none, over-more, over-same}
-use Rattle.basics.proofs.JoinLaws.{join_more, join-at, join-even}
+use Rattle.basics.proofs.JoinLaws.{join_more, join-even}
 use Rattle.basics.proofs.ChoiceLaws.{and_true, within_true}
 use Rattle.basics.proofs.FillLaws.{rest_at, back_at, Filled, filled_part, rest_length}
 use Rattle.table.specs.declared.Task.{Task}
 use Rattle.table.specs.declared.Table.{Table}
 use Rattle.table.specs.declared.Checked.{Checked}
 use Rattle.table.specs.Limits.{max_tasks}
-use Rattle.table.specs.Empty.{empty_task, empty_table}
+use Rattle.table.specs.Empty.{no_groups, empty_task, empty_table}
 use Rattle.table.specs.At.{task_at}
-use Rattle.block.specs.declared.Version.{Version}
-use Rattle.block.specs.declared.Takes.{Takes}
 use Rattle.block.specs.declared.Head.{Head}
 use Rattle.block.specs.Block.{block_size, head_in, task_in}
 use Rattle.block.proofs.BlockLaws.{block_length}
 use Rattle.card.specs.Archive.{head_for, block_for, archive_of, is_length, block_at, blocks_in, block_fault, block_fault_at, table_in}
 
--- ---- a block of an archive
+-- ---- a block of an archive, as `&a[512 * i..512 * i + 512]` is handed on
 
--- as `&a[512 * i..512 * i + 512]` is handed on
 part_is : (a : List ℕ) (i : ℕ) → take (512 * i + 512 - 512 * i) (drop (512 * i) a) ≡ block_at a i
 part_is a i = let e : 512 * i + 512 - 512 * i ≡ 512 = omega arith in rw e
-
--- one of blocks that were joined
-pub part_of_lem : (n i : ℕ) (f : ℕ → List ℕ) → ((k : ℕ) → k < n → length (f k) ≡ 512) → i < n → block_at (join_to n f) i ≡ f i
-part_of_lem n i f each h =
-    let l = join-even n 512 f each in
-    let w : length (drop (512 * i) (join_to n f)) ≡ 512 * n - 512 * i = length-drop (512 * i) (join_to n f) ∙ rw l in
-    let t : length (block_at (join_to n f) i) ≡ 512 = length-take-le 512 (drop (512 * i) (join_to n f)) (omega arith) in
-    ext_get_or 0 (block_at (join_to n f) i) (f i) (t ∙ sym (each i h))
-    (λ j m. get_or-take 512 (drop (512 * i) (join_to n f)) j 0 (omega arith) ∙ get_or-drop (512 * i) (join_to n f) j 0 ∙ join-at n 512 i j f 0 each h (omega arith))
 
 module _ (a : List ℕ) (n : ℕ) (l : length a ≡ 512 * n) where
   pub blocks-are : blocks_in a ≡ n
   blocks-are = omega arith
 
   -- what is found of it is what the definition says of block i + 1
-  pub block-found : (w : Takes) (i : ℕ) {first : Head} {c : Checked} → first ≡ head_in (take 512 a)
-      → c ≡ block_fault w first n (i + 1) (take (512 * i + 512 - 512 * i) (drop (512 * i) a)) → block_fault_at w a i ≡ c
-  block-found w i e f = rw blocks-are (sym (f ∙ rw (e, part_is a i)))
+  pub block-found : (i : ℕ) {first : Head} {c : Checked} → first ≡ head_in (take 512 a)
+      → c ≡ block_fault first n (i + 1) (take (512 * i + 512 - 512 * i) (drop (512 * i) a)) → block_fault_at a i ≡ c
+  block-found i e f = rw blocks-are (sym (f ∙ rw (e, part_is a i)))
 
   -- ---- the table, filled with the tasks of the first i blocks
 
@@ -60,11 +47,11 @@ module _ (a : List ℕ) (n : ℕ) (l : length a ≡ 512 * n) where
       record {
         cpus = (head_in (block_at a 0)).cpus;
         n = n;
-        groups = (head_in (block_at a 0)).groups;
+        groups = no_groups;
         tasks = row_to i (λ j. task_in (block_at a j)) ++ drop i (replicate max_tasks empty_task);
       }
 
-  pub table-start : {t : Table} {h : Head} → t ≡ empty_table → h ≡ head_in (take 512 a) → record { cpus = h.cpus; n = n; groups = h.groups; tasks = t.tasks } ≡ tableTo 0
+  pub table-start : {t : Table} {h : Head} → t ≡ empty_table → h ≡ head_in (take 512 a) → record { cpus = h.cpus; n = n; groups = t.groups; tasks = t.tasks } ≡ tableTo 0
   unfolding empty_table
   table-start e f = rw (e, f, ← over_none (λ j. task_in (block_at a j)) (replicate max_tasks empty_task))
 
@@ -79,19 +66,19 @@ module _ (a : List ℕ) (n : ℕ) (l : length a ≡ 512 * n) where
 
 -- ---- the blocks of a table, put one after the other
 
-module _ (v : Version) (t : Table) (i : ℕ) {o o₁ : List ℕ} (q : Filled o o₁ (join_to i (block_for v t)) (512 * i)) (h : 512 * i + 512 ≤ length o) where
-  pub block_next : {ys : List ℕ} → length ys ≡ length (rest_at o₁ (512 * i)) → ys ≡ put_into (block_for v t i) (rest_at o₁ (512 * i))
-      → Filled o (back_at o₁ (512 * i) ys) (join_to (i + 1) (block_for v t)) (512 * (i + 1))
+module _ (t : Table) (i : ℕ) {o o₁ : List ℕ} (q : Filled o o₁ (join_to i (block_for t)) (512 * i)) (h : 512 * i + 512 ≤ length o) where
+  pub block_next : {ys : List ℕ} → length ys ≡ length (rest_at o₁ (512 * i)) → ys ≡ put_into (block_for t i) (rest_at o₁ (512 * i))
+      → Filled o (back_at o₁ (512 * i) ys) (join_to (i + 1) (block_for t)) (512 * (i + 1))
   block_next {ys} l e =
-      let n : length (block_for v t i) ≡ 512 = block_length _ _ in
-      let r : leb (length (block_for v t i)) (length (rest_at o₁ (512 * i))) ≡ true = le-leb (length (block_for v t i)) (length (rest_at o₁ (512 * i))) (omega (arith, rest_length o₁ (512 * i), q.kept)) in
-      let f : ys ≡ block_for v t i ++ drop 512 (rest_at o₁ (512 * i)) = e ∙ rw (r, n) in
+      let n : length (block_for t i) ≡ 512 = block_length _ _ in
+      let r : leb (length (block_for t i)) (length (rest_at o₁ (512 * i))) ≡ true = le-leb (length (block_for t i)) (length (rest_at o₁ (512 * i))) (omega (arith, rest_length o₁ (512 * i), q.kept)) in
+      let f : ys ≡ block_for t i ++ drop 512 (rest_at o₁ (512 * i)) = e ∙ rw (r, n) in
       let m : 512 * (i + 1) ≡ 512 * i + 512 = omega arith in
-      rw (join_more, m) (filled_part q (block_for v t i) (omega arith) (sym n) l f)
+      rw (join_more, m) (filled_part q (block_for t i) (omega arith) (sym n) l f)
 
-pub archive_length : (v : Version) (t : Table) → length (archive_of v t) ≡ block_size * t.n
+pub archive_length : (t : Table) → length (archive_of t) ≡ block_size * t.n
 unfolding archive_of
-archive_length v t = join-even t.n 512 (block_for v t) (λ i h. block_length (head_for v t i) (task_at t i))
+archive_length t = join-even t.n 512 (block_for t) (λ i h. block_length (head_for t i) (task_at t i))
 
 -- ---- a length of whole blocks
 

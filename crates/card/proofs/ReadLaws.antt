@@ -1,12 +1,12 @@
 -- What the reader's answer says of an archive.
 -- Assumes nothing.
-use Prim.Native.Nat.{ℕ, ◌*◌, ◌≤◌, ◌<◌}
+use Prim.Native.Nat.{ℕ, ◌<◌}
 use mathlib.Core.Path.{◌≡◌, refl, ap, ◌∙◌}
 use mathlib.Core.Bool.{Bool, true, false}
 use mathlib.Core.List.{List}
 use native.Mathlib.Omega.{arith}
 use native.Mathlib.Decide.{dec_lt}
-use lib.ListN.{length, get_or, get_or-eq_default}
+use lib.ListN.{length, get_or, get_or-replicate, get_or-eq_default}
 use lib.Dec.{ltb}
 use Rattle.basics.specs.Choice.{pick}
 use Rattle.basics.specs.Over.{row_to}
@@ -17,37 +17,39 @@ use Rattle.table.specs.declared.Checked.TheVariants.{Fine, Refused}
 use Rattle.table.specs.declared.Reading.{Reading}
 use Rattle.table.specs.declared.Task.{Task}
 use Rattle.table.specs.declared.Table.{Table}
-use Rattle.table.specs.Limits.{max_tasks}
+use Rattle.table.specs.Limits.{max_tasks, max_resources}
 use Rattle.table.specs.Empty.{empty_task}
-use Rattle.table.specs.At.{no_task, NoAlpha}
-use Rattle.table.specs.Faults.{unless}
+use Rattle.table.specs.At.{no_task, NoAlpha, NoGroup}
+use Rattle.table.specs.Faults.{◌then◌, unless}
 use Rattle.table.specs.Rules.{table_fault}
 use Rattle.table.specs.Answers.{accepted, or_table}
-use Rattle.table.proofs.RuleLaws.{unless_fine}
 use Rattle.table.proofs.FirstLaws.{then_fine}
-use Rattle.block.specs.declared.Takes.{Takes}
-use Rattle.block.specs.Block.{block_size, task_in}
-use Rattle.card.specs.Archive.{max_archive, block_at, blocks_in, is_length, blocks_fault, table_in, archive_fault, read_archive}
-use Rattle.card.proofs.ArchiveLaws.{length_whole}
+use Rattle.block.specs.Block.{task_in}
+use Rattle.card.specs.Archive.{block_at, blocks_in, is_length, blocks_fault, table_in, archive_fault, read_archive}
 
-pub answer_is : (w : Takes) (a : List ℕ) → (read_archive w a).answer ≡ archive_fault w a
+pub answer_is : (a : List ℕ) → (read_archive a).answer ≡ archive_fault a
 unfolding read_archive
-answer_is w a = go (archive_fault w a)
+answer_is a = go (archive_fault a)
   where
     go : (c : Checked) → (or_table c (table_in a)).answer ≡ c
     go Fine = refl
     go (Refused r) = refl
 
 -- what is accepted has no fault, and is read as what it says
-pub accepted_is : (w : Takes) (a : List ℕ) (t : Table) → read_archive w a ≡ accepted t → (archive_fault w a ≡ Fine) × (table_in a ≡ t)
+pub accepted_is : (a : List ℕ) (t : Table) → read_archive a ≡ accepted t → (archive_fault a ≡ Fine) × (table_in a ≡ t)
 unfolding read_archive
-accepted_is w a t e = go (archive_fault w a) refl e
+accepted_is a t e = go (archive_fault a) refl e
   where
-    go : (c : Checked) → archive_fault w a ≡ c → or_table c (table_in a) ≡ accepted t → (c ≡ Fine) × (table_in a ≡ t)
+    go : (c : Checked) → archive_fault a ≡ c → or_table c (table_in a) ≡ accepted t → (c ≡ Fine) × (table_in a ≡ t)
     go Fine f q = (refl, ap (λ (r : Reading). r.table) q)
     go (Refused r) f q = let e : Refused r ≡ Fine = ap (λ (x : Reading). x.answer) q in let z : ◌≡◌ {A = ℕ} 0 1 = cc in absurd (omega arith)
 
--- a card has no alpha
+-- a card has no groups
+pub card_ungrouped : (a : List ℕ) → NoGroup (table_in a)
+unfolding table_in
+card_ungrouped a k h = get_or-replicate max_resources k 0 0 h
+
+-- and no alpha
 task_none : (b : Bool) (s : List ℕ) → (pick b (task_in s) empty_task).alpha ≡ 0
 unfolding task_in empty_task
 task_none true s = refl
@@ -64,15 +66,10 @@ card_none a i h = go (dec_lt i max_tasks)
     go (yes d) = ap (λ (x : Task). x.alpha) (row_at max_tasks i tasks no_task d) ∙ task_none (ltb i (blocks_in a)) (block_at a i)
     go (no d) = ap (λ (x : Task). x.alpha) (get_or-eq_default (row_to max_tasks tasks) no_task (omega (arith, row-length max_tasks tasks)))
 
--- an archive without a fault is no longer than the longest
-pub fine_most : (w : Takes) (a : List ℕ) → archive_fault w a ≡ Fine → block_size * blocks_in a ≤ max_archive
-unfolding archive_fault
-fine_most w a e = omega (arith, (length_whole (length a) (unless_fine _ BadLength 0 (then_fine (unless (is_length (length a)) BadLength 0) _ e).0)).2)
-
 -- the table's own refusals come last, so there are none
-pub accepted_passes : (w : Takes) (a : List ℕ) (t : Table) → read_archive w a ≡ accepted t → table_fault t ≡ Fine
+pub accepted_passes : (a : List ℕ) (t : Table) → read_archive a ≡ accepted t → table_fault t ≡ Fine
 unfolding archive_fault
-accepted_passes w a t e =
-    let p = accepted_is w a t e in
+accepted_passes a t e =
+    let p = accepted_is a t e in
     let q = then_fine (unless (is_length (length a)) BadLength 0) _ p.0 in
-    rw p.1 at (then_fine (blocks_fault w a) (table_fault (table_in a)) q.1).1
+    rw p.1 at (then_fine (blocks_fault a) (table_fault (table_in a)) q.1).1

@@ -1,5 +1,5 @@
--- Request 2/12 of document 02: the archive of a table; what an archive is refused with, and the table that it says. 20 is request 9/12's, the versions are request 10/12's.
-use Rattle.std.specs.Prelude.{ℕ, ◌+◌, ◌*◌, ◌/◌, ◌%◌, Bool, true, not, ◌&&◌, List, length, take, drop, leb, ltb, eqb}
+-- Request 2/12 of document 02: the archive of a table; what an archive is refused with, and the table that it says. 20 is request 9/12's.
+use Rattle.std.specs.Prelude.{ℕ, ◌+◌, ◌*◌, ◌/◌, ◌%◌, Bool, not, ◌&&◌, List, length, take, drop, leb, ltb, eqb}
 use Rattle.basics.specs.Choice.{pick, within}
 use Rattle.basics.specs.Over.{join_to, row_to}
 use Rattle.table.specs.declared.Table.{Table}
@@ -8,57 +8,41 @@ use Rattle.table.specs.declared.Checked.{Checked}
 use Rattle.table.specs.declared.Reading.{Reading}
 use Rattle.table.specs.declared.Written.{Written}
 use Rattle.table.specs.Limits.{max_tasks}
-use Rattle.table.specs.Empty.{empty_task}
+use Rattle.table.specs.Empty.{no_groups, empty_task}
 use Rattle.table.specs.At.{task_at}
 use Rattle.table.specs.Faults.{◌then◌, unless, first_fault}
 use Rattle.table.specs.Rules.{has_group, table_fault}
 use Rattle.table.specs.Answers.{or_table, or_wrote, or_text}
-use Rattle.block.specs.declared.Version.{Version}
-use Rattle.block.specs.declared.Version.TheVariants.{One, Two}
-use Rattle.block.specs.declared.Takes.{Takes}
 use Rattle.block.specs.declared.Head.{Head}
-use Rattle.block.specs.Block.{block_size, version_byte, block_of, good_block, head_in, agree, task_in}
+use Rattle.block.specs.Block.{block_size, block_of, good_block, head_in, task_in}
 
 -- ---- an archive as it is written
 
 -- what block i + 1 says besides its task
-abbrev pub head_for : Version → Table → ℕ → Head
-head_for v t i = record { version = version_byte v; cpus = t.cpus; n = t.n; number = i + 1; groups = t.groups }
+abbrev pub head_for : Table → ℕ → Head
+head_for t i = record { cpus = t.cpus; n = t.n; number = i + 1 }
 
 -- "Block i holds task i"
-abbrev pub block_for : Version → Table → ℕ → List ℕ
-block_for v t i = block_of (head_for v t i) (task_at t i)
+abbrev pub block_for : Table → ℕ → List ℕ
+block_for t i = block_of (head_for t i) (task_at t i)
 
--- "An archive is blocks 1 to n", all of one version
-unfoldable pub archive_of : Version → Table → List ℕ
-archive_of v t = join_to t.n (block_for v t)
-
--- the bytes of the longest, with as many tasks as a table can have; the function `longest_archive` ties this to the constant of the code
-abbrev pub max_archive : ℕ
-max_archive = block_size * max_tasks
-
--- an archive of version 1 has no place for groups
-unfoldable pub can_hold : Version → List ℕ → Bool
-can_hold One groups = not (has_group groups)
-can_hold Two groups = true
-
--- the first version that can hold them: version 1 where there are none
-unfoldable pub version_for : List ℕ → Version
-version_for groups = pick (has_group groups) Two One
+-- "An archive is blocks 1 to n"
+unfoldable pub archive_of : Table → List ℕ
+archive_of t = join_to t.n (block_for t)
 
 -- the table's own refusals; 20, "writing a table that has a group as a card archive of version 1, place 0, after the table's own and before 11";
 -- "a writer whose output is shorter than 512 × n bytes gives 11 last"
-unfoldable pub archiving_fault : Version → Table → ℕ → Checked
-archiving_fault v t room =
+unfoldable pub archiving_fault : Table → ℕ → Checked
+archiving_fault t room =
     table_fault t then
-    unless (can_hold v t.groups) HasGroup 0 then
+    unless (not (has_group t.groups)) HasGroup 0 then
     unless (leb (block_size * t.n) room) TooShort 0
 
-unfoldable pub archiving_answer : Version → Table → ℕ → Written
-archiving_answer v t room = or_wrote (archiving_fault v t room) (block_size * t.n)
+unfoldable pub archiving_answer : Table → ℕ → Written
+archiving_answer t room = or_wrote (archiving_fault t room) (block_size * t.n)
 
-unfoldable pub archiving : Version → Table → List ℕ → List ℕ
-archiving v t out = or_text (archiving_fault v t (length out)) (archive_of v t) out
+unfoldable pub archiving : Table → List ℕ → List ℕ
+archiving t out = or_text (archiving_fault t (length out)) (archive_of t) out
 
 -- ---- an archive as it is read
 
@@ -73,39 +57,39 @@ blocks_in a = length a / block_size
 unfoldable pub is_length : ℕ → Bool
 is_length l = eqb (l % block_size) 0 && within 1 max_tasks (l / block_size)
 
--- 14 is "processors or n not block 1's, n not the number of blocks, or a task number not the position", and a version or groups not block 1's
-unfoldable pub in_place : Head → ℕ → ℕ → Head → Bool
-in_place first n position h = agree first h && eqb h.n n && eqb h.number position
+-- 14 is "processors or n not block 1's, n not the number of blocks, or a task number not the position"
+unfoldable pub agrees : Head → ℕ → ℕ → Head → Bool
+agrees first n position h = eqb h.cpus first.cpus && eqb h.n first.n && eqb h.n n && eqb h.number position
 
--- "block by block, the place its position, 13 .. then 14": a block s, for a reader that takes the versions w
-unfoldable pub block_fault : Takes → Head → ℕ → ℕ → List ℕ → Checked
-block_fault w first n position s =
-    unless (good_block w s) BadBlock position then
-    unless (in_place first n position (head_in s)) Mismatch position
+-- "block by block, the place its position, 13 .. then 14": a block s
+unfoldable pub block_fault : Head → ℕ → ℕ → List ℕ → Checked
+block_fault first n position s =
+    unless (good_block s) BadBlock position then
+    unless (agrees first n position (head_in s)) Mismatch position
 
 -- block i + 1 of an archive
-abbrev pub block_fault_at : Takes → List ℕ → ℕ → Checked
-block_fault_at w a i = block_fault w (head_in (block_at a 0)) (blocks_in a) (i + 1) (block_at a i)
+abbrev pub block_fault_at : List ℕ → ℕ → Checked
+block_fault_at a i = block_fault (head_in (block_at a 0)) (blocks_in a) (i + 1) (block_at a i)
 
-unfoldable pub blocks_fault : Takes → List ℕ → Checked
-blocks_fault w a = first_fault (blocks_in a) (block_fault_at w a)
+unfoldable pub blocks_fault : List ℕ → Checked
+blocks_fault a = first_fault (blocks_in a) (block_fault_at a)
 
--- the processors and the groups that block 1 says, and the task of each block, with zeros past the last
+-- the processors that block 1 says and the task of each block, with zeros past the last; a card of version 1 has no groups
 unfoldable pub table_in : List ℕ → Table
 table_in a =
     record {
       cpus = (head_in (block_at a 0)).cpus;
       n = blocks_in a;
-      groups = (head_in (block_at a 0)).groups;
+      groups = no_groups;
       tasks = row_to max_tasks (λ i. pick (ltb i (blocks_in a)) (task_in (block_at a i)) empty_task);
     }
 
 -- "12 ..; block by block ..; then the table's own". Neither 9 nor 8 is among these: there are 1 to 32 blocks, and n is how many
-unfoldable pub archive_fault : Takes → List ℕ → Checked
-archive_fault w a =
+unfoldable pub archive_fault : List ℕ → Checked
+archive_fault a =
     unless (is_length (length a)) BadLength 0 then
-    blocks_fault w a then
+    blocks_fault a then
     table_fault (table_in a)
 
-unfoldable pub read_archive : Takes → List ℕ → Reading
-read_archive w a = or_table (archive_fault w a) (table_in a)
+unfoldable pub read_archive : List ℕ → Reading
+read_archive a = or_table (archive_fault a) (table_in a)

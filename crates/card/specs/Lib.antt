@@ -1,3 +1,3 @@
--- A table to an archive and back (requests 2/12 and 10/12 of document 02).
+-- A table to an archive and back (request 2/12 of document 02).
 --   Archive   the archive of a table; what an archive is refused with, and what it says
 pub mod Archive

@@ -3,9 +3,9 @@ ghost use Rattle.std.specs.Prelude.{◌≡◌, ◌*◌, ◌≤◌, length};
 ghost use Rattle.table.specs.Limits.{max_tasks};
 ghost use Rattle.table.specs.Answers.{not_read};
 ghost use Rattle.block.specs.Block.{block_size};
-ghost use Rattle.card.specs.Archive.{is_length, in_place, block_fault, blocks_fault, table_in};
+ghost use Rattle.card.specs.Archive.{is_length, agrees, block_fault, blocks_fault, table_in};
 
-use block::{Head, SIZE, Takes};
+use block::{Head, SIZE};
 use table::{Checked, Fault, Reading, Refusal, Table};
 
 pub(crate) fn refuse(r: Refusal) -> Reading
@@ -32,32 +32,38 @@ pub(crate) fn is_length(length: usize) -> bool
 }
 
 // 14, of a block by what it says, among n blocks of which the first says this.
-fn in_place(first: Head, n: u32, position: u32, h: Head) -> bool
-    ensures { result ≡ in_place first n position h }
+fn agrees(first: Head, n: u32, position: u32, h: Head) -> bool
+    ensures { result ≡ agrees first n position h }
 {
-    if !block::agree(first, h) {
+    // in locals, so that a wrong program that compares others keeps the shape
+    let said = h.n;
+    let said_first = first.n;
+    if h.cpus != first.cpus {
         return false;
     }
-    if h.n != n {
+    if said != said_first {
+        return false;
+    }
+    if said != n {
         return false;
     }
     h.number == position
 }
 
 // 13, then 14, of the block at a position, counted from 1.
-fn check_block(w: Takes, first: Head, n: u32, position: u32, s: &[u8]) -> Checked
-    ensures { result ≡ block_fault w first n position s.now }
+fn check_block(first: Head, n: u32, position: u32, s: &[u8]) -> Checked
+    ensures { result ≡ block_fault first n position s.now }
 {
     // both before either is looked at, so that a wrong program that looks at the second first keeps the shape
-    let good = block::is_good(w, s);
-    let placed = in_place(first, n, position, block::head_of(s));
+    let good = block::is_good(s);
+    let in_place = agrees(first, n, position, block::head_of(s));
     if !good {
         return Checked::Refused(Refusal {
             fault: Fault::BadBlock,
             place: position,
         });
     }
-    if !placed {
+    if !in_place {
         return Checked::Refused(Refusal {
             fault: Fault::Mismatch,
             place: position,
@@ -67,16 +73,15 @@ fn check_block(w: Takes, first: Head, n: u32, position: u32, s: &[u8]) -> Checke
 }
 
 // Block by block.
-pub(crate) fn check_blocks(w: Takes, a: &[u8], n: usize) -> Checked
+pub(crate) fn check_blocks(a: &[u8], n: usize) -> Checked
     requires { (length a.now ≡ block_size * n) × (1 ≤ n) × (n ≤ max_tasks) }
-    ensures { result ≡ blocks_fault w a.now }
+    ensures { result ≡ blocks_fault a.now }
 {
     let first = block::head_of(&a[..SIZE]);
     let mut i: usize = 0;
     while i < n {
         let at = SIZE * i;
         if let Checked::Refused(r) = check_block(
-            w,
             first,
             n as u32,
             (i + 1) as u32,
@@ -89,7 +94,7 @@ pub(crate) fn check_blocks(w: Takes, a: &[u8], n: usize) -> Checked
     Checked::Fine
 }
 
-// The processors and the groups that block 1 says, and the task of each block.
+// The processors that block 1 says, and the task of each block.
 pub(crate) fn table_of(a: &[u8], n: usize) -> Table
     requires { (length a.now ≡ block_size * n) × (1 ≤ n) × (n ≤ max_tasks) }
     ensures { result ≡ table_in a.now }
@@ -98,8 +103,6 @@ pub(crate) fn table_of(a: &[u8], n: usize) -> Table
     let mut t = Table::empty();
     t.cpus = first.cpus;
     t.n = n;
-    let groups = first.groups;
-    t.groups = groups;
     let mut i: usize = 0;
     while i < n {
         let at = SIZE * i;

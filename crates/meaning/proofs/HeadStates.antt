@@ -37,8 +37,8 @@ pub record Head (past : Past) (n : ℕ) (s : List ℕ) : Type 0 where
   pub stating : Stating (past_groups past groups) (n + length groups) rest no_alpha
 
 module _ (past : Past) (n : ℕ) {s : List ℕ} where
-  no-groups : Stating past n s no_alpha → Head past n s
-  no-groups x = record { groups = []; first = []; rest = s; text = refl; states = StatesGroups.no_group; good = GoodGroups.no_group; stating = rw (add-zero n) x }
+  no_groups : Stating past n s no_alpha → Head past n s
+  no_groups x = record { groups = []; first = []; rest = s; text = refl; states = StatesGroups.no_group; good = GoodGroups.no_group; stating = rw (add-zero n) x }
 
   group-states : {l : List ℕ} {ls : List (List ℕ)} {G : ℕ} {K : Resource} (a : Start s l ls) → form (bytes "group") 3 l ≡ true
       → GroupRules past (count_in l 1) (count_in l 2) G K → Head (past_after past (Group G K)) (n + 1) a.rest → Head past n s
@@ -59,7 +59,7 @@ module _ (past : Past) (n : ℕ) {s : List ℕ} where
 
 pub heads_to : (ls : List (List ℕ)) (s : List ℕ) (past : Past) (n : ℕ) → lines s ≡ ls → 1 < n → past.tasks ≡ 0 → past.fresh ≡ false → Head past n s
 unfolding past_after
-heads_to [] s past n e h z f = no-groups past n (stating-none past n (omega arith) (at_end (no_line_of s e)))
+heads_to [] s past n e h z f = no_groups past n (stating-none past n (omega arith) (at_end (no_line_of s e)))
 heads_to (l ∷ ls) s past n e h z f = go (line_says past n l) refl (line_is past n l) (λ past j k. heads_to ls a.rest past (n + 1) a.left (omega arith) j k)
   where
     a : Start s l ls
@@ -72,7 +72,7 @@ heads_to (l ∷ ls) s past n e h z f = go (line_says past n l) refl (line_is pas
     go _ d (is_cpus i e r) ih = absurd (omega arith)
     go _ d (is_group {G} {K} i e j r) ih = group-states past n a i r (ih (past_after past (Group G K)) z f)
     go _ d (is_task {C = C} i e r) ih =
-        no-groups past n (task-states past n m a i r (states_to ls a.rest (after_task past C) (n + 1) a.left (omega arith) (omega arith) (omega (arith, r.room))))
+        no_groups past n (task-states past n m a i r (states_to ls a.rest (after_task past C) (n + 1) a.left (omega arith) (omega arith) (omega (arith, r.room))))
     go _ d (is_alpha i e r) ih = absurd (true≢false (sym e ∙ f))
     go _ d (is_use i e r) ih = absurd (omega arith)
-    go _ d (is_not r) ih = no-groups past n (stating-none past n m (at_line l a.rest r a.text a.clean d))
+    go _ d (is_not r) ih = no_groups past n (stating-none past n m (at_line l a.rest r a.text a.clean d))

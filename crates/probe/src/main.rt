@@ -1,9 +1,8 @@
-// A test program: hands a raw table of any numbers to one entry point of the library, a listing or an archive to its reader, a time or a count to its writer, an archive to the mover, or a card to the tool for bad blocks, and prints the answer and all that was lent.
+// A test program: hands a raw table of any numbers to one entry point of the library, a listing or an archive to its reader, a time or a count to its writer, or a card to the tool for bad blocks, and prints the answer and all that was lent.
 // docs/PROBE.md describes its input. Its contracts say nothing: it is for comparing, and what it calls is proved elsewhere.
 ghost use Rattle.std.specs.Prelude.{◌≤◌, length};
 
 use analysis::{Answer, Record};
-use block::{Takes, Version};
 use libc::{STDIN_FILENO, STDOUT_FILENO};
 use put::Put;
 use table::{Checked, Level, Pair, Reading, Refusal, Table, Task, Written};
@@ -26,9 +25,6 @@ const INPUT: usize = 8;
 
 // The bytes of a request.
 const BYTES: usize = INPUT + 34_000;
-
-// Where an archive for the mover begins: after the room for what it is turned into as well.
-const TURNED: usize = 12;
 
 // Where a card with bad blocks begins: after the room for its list and the room for its archive as well.
 const CARD: usize = 16;
@@ -360,17 +356,10 @@ fn write_into(t: Table, out: &mut [u8], room: usize)
     say(out);
 }
 
-fn archive_into(version: Version, t: Table, out: &mut [u8], room: usize)
+fn archive_into(t: Table, out: &mut [u8], room: usize)
     requires { room ≤ length out.old }
 {
-    say_written(card::write(version, t, &mut out[..room]));
-    say(out);
-}
-
-fn turn_into(to: Version, archive: &[u8], out: &mut [u8], room: usize)
-    requires { room ≤ length out.old }
-{
-    say_written(mover::turn(to, archive, &mut out[..room]));
+    say_written(card::write(t, &mut out[..room]));
     say(out);
 }
 
@@ -407,14 +396,14 @@ fn write(t: Table, room: u32) {
     write_into(t, &mut out, room as usize);
 }
 
-// Entry points 6 and 14: `card::write`, with an output of so many bytes.
-fn archive(version: Version, t: Table, room: u32) {
+// Entry point 6: `card::write`, with an output of so many bytes.
+fn archive(t: Table, room: u32) {
     if OUTPUT < room as usize {
         say(b"bad output\n");
         return;
     }
     let mut out = [b'#'; OUTPUT];
-    archive_into(version, t, &mut out, room as usize);
+    archive_into(t, &mut out, room as usize);
 }
 
 // Entry point 8: `put::put_time`, with an output of so many bytes.
@@ -453,32 +442,13 @@ fn read(s: &[u8], length: u32) {
     say_reading(listing::read(&s[INPUT..INPUT + length as usize]));
 }
 
-// Entry points 7, 15 and 16: `card::read`, of an archive of so many bytes.
-fn unarchive(w: Takes, s: &[u8], length: u32) {
+// Entry point 7: `card::read`, of an archive of so many bytes.
+fn unarchive(s: &[u8], length: u32) {
     if s.len() < INPUT + length as usize {
         say(b"bad archive\n");
         return;
     }
-    say_reading(card::read(w, &s[INPUT..INPUT + length as usize]));
-}
-
-// Entry points 17 and 18: `mover::turn`, of an archive of so many bytes, with an output of so many bytes.
-fn turn(to: Version, s: &[u8], length: u32, room: u32) {
-    if s.len() < TURNED + length as usize {
-        say(b"bad archive\n");
-        return;
-    }
-    if OUTPUT < room as usize {
-        say(b"bad output\n");
-        return;
-    }
-    let mut out = [b'#'; OUTPUT];
-    turn_into(
-        to,
-        &s[TURNED..TURNED + length as usize],
-        &mut out,
-        room as usize,
-    );
+    say_reading(card::read(&s[INPUT..INPUT + length as usize]));
 }
 
 // Entry point 9: `salvaging::salvage`, of a card of so many bytes, with a list of so many entries and an output of so many bytes.
@@ -521,19 +491,14 @@ fn main() {
         3 => analyse(t, word(&space, ALLOWANCE), argument),
         4 => write(t, argument),
         5 => read(&space, argument),
-        6 => archive(Version::One, t, argument),
-        7 => unarchive(Takes::Both, &space, argument),
+        6 => archive(t, argument),
+        7 => unarchive(&space, argument),
         8 => put_time(word(&space, 2), argument),
         9 => salvage(&space, argument, word(&space, 2), word(&space, 3)),
         10 => wait(t, argument),
         11 => wait_all(t, argument),
         12 => put_count(long_at(&space, 2), argument),
         13 => merge(t, argument),
-        14 => archive(Version::Two, t, argument),
-        15 => unarchive(Takes::Only(Version::One), &space, argument),
-        16 => unarchive(Takes::Only(Version::Two), &space, argument),
-        17 => turn(Version::Two, &space, argument, word(&space, 2)),
-        18 => turn(Version::One, &space, argument, word(&space, 2)),
         _ => say(b"bad request\n"),
     }
 }

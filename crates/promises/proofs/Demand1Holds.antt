@@ -27,11 +27,9 @@ use Rattle.rounds.proofs.Determined.{outcome_of_determined}
 use Rattle.shares.proofs.Determined.{shares_of_determined}
 use Rattle.refusal.proofs.Determined.{put_refusal_determined}
 use Rattle.checksum.proofs.Determined.{check_of_determined}
-use Rattle.block.proofs.Determined.{version_byte_determined, version_other_determined, takes_determined, put_block_determined, is_good_determined, head_of_determined, agree_determined, task_of_determined}
+use Rattle.block.proofs.Determined.{put_block_determined, is_good_determined, head_of_determined, task_of_determined}
 use Rattle.card.specs.Archive.{archiving}
-use Rattle.card.proofs.Determined.{version_for_determined, read_determined as card-read-determined, write_determined as card-write-determined}
-use Rattle.mover.specs.Turn.{turned}
-use Rattle.mover.proofs.Determined.{turn_determined}
+use Rattle.card.proofs.Determined.{read_determined as card-read-determined, write_determined as card-write-determined}
 use Rattle.release.proofs.Called.{archive_empty}
 use Rattle.salvaging.specs.Salvage.{salvaged}
 use Rattle.salvaging.proofs.Determined.{code_determined, blocks_of_determined, salvage_determined}
@@ -53,11 +51,8 @@ entries =
       write_answers = λ κs a r x p. p.0;
       write_leaves = λ κs a r x p. p.1;
       card_read = λ κs a r x p. p;
-      version_for_reads = λ a r x p. p;
       card_write_answers = λ κs a r x p. p.0;
       card_write_leaves = λ κs a r x p. p.1;
-      turn_answers = λ κs a r x p. p.0;
-      turn_leaves = λ κs a r x p. p.1;
       code = λ a r x p. p;
       blocks_of_reads = λ a r x p. p;
       salvage_answers = λ κs a r x p. p.0;
@@ -105,18 +100,12 @@ determines =
       write = write_determined;
       put_refusal = put_refusal_determined;
       check_of_reads = check_of_determined;
-      version_byte_reads = version_byte_determined;
-      version_other = version_other_determined;
-      takes = takes_determined;
       put_block = put_block_determined;
       is_good = is_good_determined;
       head_of = head_of_determined;
-      agree = agree_determined;
       task_of = task_of_determined;
       card_read = card-read-determined;
-      version_for_reads = version_for_determined;
       card_write = card-write-determined;
-      turn = turn_determined;
       code = code_determined;
       blocks_of_reads = blocks_of_determined;
       salvage = salvage_determined;
@@ -140,7 +129,7 @@ not_put true n text out e = let z : ◌≡◌ {A = ℕ} 0 1 = cc in absurd (omeg
 not_put false n text out e = refl
 
 keeps : Keeps
-unfolding analysed record_count join_to written archiving turned
+unfolding analysed record_count join_to written archiving
 keeps =
     record {
       row = λ t allowance row r e. rw e;
@@ -149,8 +138,7 @@ keeps =
       place = λ text at out e. not_put (leb (at + length text) (length out)) _ _ out e;
       page = λ p cells out e. not_put (fits_page p out) _ _ out e;
       table = listing_empty;
-      archiving = λ v t out r e. rw e;
-      turning = λ to a out r e. rw e;
+      archiving = λ t out r e. rw e;
       card = archive_empty;
     }
 

@@ -1,5 +1,5 @@
 --   RefusalsHold                                                                                                                                                        a refusal is given exactly when it is called for
---   Demand1Holds, Demand2Holds, NoEasierHolds, NotEmptyHolds, DecimalsHold, ArchivesHold, PointsHold, WindowHolds, SalvagesHold, RoundsHold, EachReadHolds, ReadsHold, RespondsHold, WaitsHold, GroupsHold, VersionsHold   each promise, by citing the crate or the file that did the work
+--   Demand1Holds, Demand2Holds, NoEasierHolds, NotEmptyHolds, DecimalsHold, ArchivesHold, PointsHold, WindowHolds, SalvagesHold, RoundsHold, EachReadHolds, ReadsHold, RespondsHold, WaitsHold, GroupsHold   each promise, by citing the crate or the file that did the work
 --   NoEasierLaws                                                                                                                                                        the one result, over what the analysis reads of two tables
 --   ReadsLaws, SameReadLaws, OnlyRunLaws                                                                                                                                what a verdict reads: of which tasks; the demand is the same where two tables agree on it, and where one run time alone differs
 --   MergedLaws                                                                                                                                                          what the merged pairs of an accepted table hold; that the numbers of groups are not read; no easier as typed, so no easier merged
@@ -14,7 +14,6 @@ pub mod NotEmptyHolds
 pub mod NoEasierLaws
 pub mod NoEasierHolds
 pub mod DecimalsHold
-pub mod VersionsHold
 pub mod ArchivesHold
 pub mod ReportLaws
 pub mod ThreeTasks

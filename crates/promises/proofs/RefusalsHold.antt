@@ -1,10 +1,9 @@
 -- A refusal is given exactly when it is called for (specs/Refusals.antt).
 -- Assumes nothing.
-use Prim.Native.Nat.{ℕ, ◌*◌, ◌≤◌, ◌<◌}
+use Prim.Native.Nat.{ℕ, ◌*◌, ◌<◌}
 use mathlib.Core.Path.{◌≡◌, refl, sym, ap, ◌∙◌}
 use mathlib.Core.Bool.{Bool, true, false, not}
 use mathlib.Core.Logic.{◌⊎◌, inl, inr}
-use mathlib.Core.List.{List}
 use native.Mathlib.Decide.{dec_lt}
 use native.Mathlib.Omega.{arith}
 use borrow.Author.Tests.{leb-true, le-leb, lt-leb}
@@ -22,28 +21,18 @@ use Rattle.table.specs.declared.Written.TheVariants.{NotWritten}
 use Rattle.table.specs.declared.Refusal.{Refusal}
 use Rattle.table.specs.Faults.{Told, Refuses, ◌then◌, unless}
 use Rattle.table.specs.Answers.{or_wrote}
-use Rattle.table.specs.Limits.{max_resources}
-use Rattle.table.specs.At.{group_at}
-use Rattle.table.specs.Rules.{has_alpha, table_fault}
+use Rattle.table.specs.Rules.{has_group, has_alpha, table_fault}
 use Rattle.table.specs.Refusals.{CallsFor}
 use Rattle.table.proofs.Deciding.{one_number, is_rule, from_rule, from_two, by_first, fails}
 use Rattle.table.proofs.RuleFacts.{range_is}
-use Rattle.table.proofs.GroupLaws.{not_false, group-is}
+use Rattle.table.proofs.GroupLaws.{not_true, not_false, no-group-is, group-is}
 use Rattle.table.proofs.RuleLaws.{unless_fine}
 use Rattle.table.proofs.Acceptance.{fine_accepted, accepted_fine}
 use Rattle.table.proofs.Called.{refused_as_called as table-refused}
 use Rattle.meaning.proofs.ListingRefusals.{refused_as_called as listing-refused}
 use Rattle.writing.specs.Write.{text_of, write_fault, write_answer}
-use Rattle.block.specs.declared.Version.{Version}
-use Rattle.block.specs.declared.Version.TheVariants.{One, Two}
-use Rattle.block.specs.declared.Takes.{Takes}
-use Rattle.block.specs.declared.Takes.TheVariants.{Only}
-use Rattle.block.specs.Block.{block_size, other_version}
-use Rattle.card.specs.Archive.{can_hold, archiving_fault, archiving_answer, blocks_in, table_in, archive_fault}
-use Rattle.card.proofs.ReadLaws.{answer_is as read_answer}
-use Rattle.mover.specs.Turn.{turning_fault, turning_answer}
-use Rattle.release.proofs.Parts.{fine_kept}
-use Rattle.release.proofs.Turns.{can_hold_lem, hold_is}
+use Rattle.block.specs.Block.{block_size}
+use Rattle.card.specs.Archive.{archiving_fault, archiving_answer}
 use Rattle.release.proofs.Called.{refused_as_called as archive-refused}
 use Rattle.salvaging.specs.Salvage.{salvage_fault, salvage_answer}
 use Rattle.recovery.proofs.Called.{salvaged_as_called}
@@ -53,7 +42,7 @@ use Rattle.analysis.specs.Answers.{bound_fault, bound_of, or_answer, analysis_fa
 use Rattle.waits.specs.declared.Waiting.TheVariants.{For, NoAlpha, Unknown as UnknownWait}
 use Rattle.waits.specs.Answers.{wait_in, wait_fault, or_waiting, wait_answer, waits_after, all_waits}
 use Rattle.merging.proofs.ReadLaws.{read-own}
-use Rattle.promises.specs.Refusals.{BoundCallsFor, WaitCallsFor, RowCallsFor, OutputCallsFor, ArchivingCallsFor, TurningCallsFor, NotKnown, NotWaiting, NotWrote, FirstDecides}
+use Rattle.promises.specs.Refusals.{BoundCallsFor, WaitCallsFor, RowCallsFor, OutputCallsFor, ArchivingCallsFor, NotKnown, NotWaiting, NotWrote, FirstDecides}
 
 module _ (t : Table) {k p : ℕ} where
   called : Refuses (table_fault t) k p → CallsFor t k p
@@ -148,73 +137,28 @@ module _ (t : Table) (needed room : ℕ) where
   output-given (OutputCallsFor.own x) = by_first (table_fault t) _ _ _ (given t x)
   output-given (OutputCallsFor.too_short a h) = rw (accepted_fine t a) (is_rule _ TooShort 0 (lt-leb needed room h))
 
--- ---- what a version cannot hold
-
-cannot_hold : (v : Version) (t : Table) → can_hold v t.groups ≡ false → (v ≡ One) × ((k : ℕ) × (k < max_resources) × (1 ≤ group_at t k))
-unfolding can_hold
-cannot_hold One t e = (refl, (group-is t).0 (not_false _ e))
-cannot_hold Two t e = let z : ◌≡◌ {A = ℕ} 0 1 = cc in absurd (omega arith)
-
-held_not : (v : Version) (t : Table) (k : ℕ) → v ≡ One → k < max_resources → 1 ≤ group_at t k → can_hold v t.groups ≡ false
-unfolding can_hold
-held_not v t k e h l = rw e (ap not ((group-is t).1 (k, h, l)))
-
 -- ---- an archive
 
-module _ (v : Version) (t : Table) (room : ℕ) where
+module _ (t : Table) (room : ℕ) where
   abbrev grouped : Checked
-  grouped = unless (can_hold v t.groups) HasGroup 0
+  grouped = unless (not (has_group t.groups)) HasGroup 0
 
-  archiving-called : (k p : ℕ) → Refuses (archiving_fault v t room) k p → ArchivingCallsFor v t room k p
+  archiving-called : (k p : ℕ) → Refuses (archiving_fault t room) k p → ArchivingCallsFor t room k p
   unfolding archiving_fault
   archiving-called k p =
       from_two (table_fault t) _ k p (λ x. ArchivingCallsFor.own (called t x))
       (λ a. from_two grouped (unless (leb (block_size * t.n) room) TooShort 0) k p
-      (from_rule (ArchivingCallsFor v t room) (can_hold v t.groups) HasGroup 0 k p
-      (λ e. let z = cannot_hold v t e in ArchivingCallsFor.has_group_reads (fine_accepted t a) z.0 z.1.0 z.1.1 z.1.2))
-      (λ b. from_rule (ArchivingCallsFor v t room) (leb (block_size * t.n) room) TooShort 0 k p
-      (λ e. ArchivingCallsFor.too_short (fine_accepted t a) (hold_is v t (unless_fine _ HasGroup 0 b)) (omega (arith, fails _ (le-leb (block_size * t.n) room) e)))))
+      (from_rule (ArchivingCallsFor t room) (not (has_group t.groups)) HasGroup 0 k p
+      (λ e. let z = (group-is t).0 (not_false _ e) in ArchivingCallsFor.has_group_reads (fine_accepted t a) z.0 z.1 z.2))
+      (λ b. from_rule (ArchivingCallsFor t room) (leb (block_size * t.n) room) TooShort 0 k p
+      (λ e. ArchivingCallsFor.too_short (fine_accepted t a) ((no-group-is t).0 (not_true _ (unless_fine _ HasGroup 0 b))) (omega (arith, fails _ (le-leb (block_size * t.n) room) e)))))
 
-  archiving-given : {k p : ℕ} → ArchivingCallsFor v t room k p → Refuses (archiving_fault v t room) k p
+  archiving-given : {k p : ℕ} → ArchivingCallsFor t room k p → Refuses (archiving_fault t room) k p
   unfolding archiving_fault
   archiving-given (ArchivingCallsFor.own x) = by_first (table_fault t) _ _ _ (given t x)
-  archiving-given (ArchivingCallsFor.has_group_reads a e k h l) = rw (accepted_fine t a) (by_first grouped _ 20 0 (is_rule (can_hold v t.groups) HasGroup 0 (held_not v t k e h l)))
+  archiving-given (ArchivingCallsFor.has_group_reads a k h l) = rw (accepted_fine t a) (by_first grouped _ 20 0 (is_rule (not (has_group t.groups)) HasGroup 0 (ap not ((group-is t).1 (k, h, l)))))
   archiving-given (ArchivingCallsFor.too_short a z h) =
-      rw (accepted_fine t a, can_hold_lem v t z) (is_rule _ TooShort 0 (lt-leb (block_size * t.n) room h))
-
--- ---- an archive that is turned
-
-module _ (to : Version) (a : List ℕ) (room : ℕ) where
-  abbrev other : Takes
-  other = Only (other_version to)
-
-  abbrev own : Checked
-  own = archive_fault other a
-
-  abbrev held : Checked
-  held = unless (can_hold to (table_in a).groups) HasGroup 0
-
-  -- where nothing is said against it, it is whole blocks
-  whole_long : own ≡ Fine → block_size * blocks_in a ≡ length a
-  whole_long e = sym (fine_kept other a e).whole.long
-
-  turning-called : (k p : ℕ) → Refuses (turning_fault to a room) k p → TurningCallsFor to a room k p
-  unfolding turning_fault
-  turning-called k p =
-      from_two own _ k p (λ x. TurningCallsFor.own ((archive-refused.refused other a k p).0 (rw (read_answer other a) x)))
-      (λ f. from_two held (unless (leb (block_size * blocks_in a) room) TooShort 0) k p
-      (from_rule (TurningCallsFor to a room) (can_hold to (table_in a).groups) HasGroup 0 k p
-      (λ e. let z = cannot_hold to (table_in a) e in TurningCallsFor.has_group_reads (read_answer other a ∙ f) z.0 z.1.0 z.1.1 z.1.2))
-      (λ b. from_rule (TurningCallsFor to a room) (leb (block_size * blocks_in a) room) TooShort 0 k p
-      (λ e. TurningCallsFor.too_short (read_answer other a ∙ f) (hold_is to (table_in a) (unless_fine _ HasGroup 0 b)) (omega (arith, whole_long f, fails _ (le-leb (block_size * blocks_in a) room) e)))))
-
-  turning-given : {k p : ℕ} → TurningCallsFor to a room k p → Refuses (turning_fault to a room) k p
-  unfolding turning_fault
-  turning-given {k} {p} (TurningCallsFor.own x) = by_first own _ _ _ (rw (read_answer other a) at ((archive-refused.refused other a k p).1 x))
-  turning-given (TurningCallsFor.has_group_reads f e k h l) = rw (sym (read_answer other a) ∙ f) (by_first held _ 20 0 (is_rule (can_hold to (table_in a).groups) HasGroup 0 (held_not to (table_in a) k e h l)))
-  turning-given (TurningCallsFor.too_short f z h) =
-      let g = sym (read_answer other a) ∙ f in
-      rw (g, can_hold_lem to (table_in a) z) (is_rule _ TooShort 0 (lt-leb (block_size * blocks_in a) room (rw (whole_long g) h)))
+      rw (accepted_fine t a, (no-group-is t).1 z) (is_rule _ TooShort 0 (lt-leb (block_size * t.n) room h))
 
 -- ---- from a check to what is answered by it
 
@@ -244,7 +188,7 @@ both : {P Q R : Type 0} → P exactly_if Q → Q exactly_if R → P exactly_if R
 both f g = (λ x. g.0 (f.0 x), λ x. f.1 (g.1 x))
 
 pub first_decides : FirstDecides
-unfolding write_fault write_answer archiving_fault archiving_answer turning_answer bound_of wait_answer salvage_answer
+unfolding write_fault write_answer archiving_fault archiving_answer bound_of wait_answer salvage_answer
 first_decides =
     record {
       numbers = one_number;
@@ -259,6 +203,5 @@ first_decides =
       waits = λ t k p. rw waits_checked (table-refused.refused t k p);
       row = λ t allowance room k p. (row-called t allowance room k p, row-given t allowance room);
       output = λ t room k p. both (not_written_is _ (write_fault t room) k p) (output-called t (length (text_of t)) room k p, output-given t (length (text_of t)) room);
-      archiving = λ v t room k p. both (not_written_is _ (archiving_fault v t room) k p) (archiving-called v t room k p, archiving-given v t room);
-      turning = λ to a room k p. both (not_written_is _ (turning_fault to a room) k p) (turning-called to a room k p, turning-given to a room);
+      archiving = λ t room k p. both (not_written_is _ (archiving_fault t room) k p) (archiving-called t room k p, archiving-given t room);
     }

@@ -24,10 +24,7 @@ use Rattle.put.specs.declared.Put.TheVariants.{Short}
 use Rattle.put.specs.Text.{put_answer, put_answer_at, put_at}
 use Rattle.listing.specs.Read.{read_listing}
 use Rattle.writing.specs.Write.{write_fault, write_answer, written}
-use Rattle.block.specs.declared.Version.{Version}
-use Rattle.block.specs.declared.Takes.{Takes}
-use Rattle.card.specs.Archive.{version_for, archiving_fault, archiving_answer, archiving, read_archive}
-use Rattle.mover.specs.Turn.{turning_fault, turning_answer, turned}
+use Rattle.card.specs.Archive.{archiving_fault, archiving_answer, archiving, read_archive}
 use Rattle.salvaging.specs.Fates.{code_of, codes_of}
 use Rattle.salvaging.specs.Salvage.{blocks_of, salvage_fault, salvage_answer, listed, salvaged}
 use Rattle.table.specs.Answers.{or_table}
@@ -69,18 +66,12 @@ use Rattle.listing.proofs.read.Reads as read
 use Rattle.writing.proofs.write.Reads as write
 use Rattle.refusal.proofs.put_refusal.Reads as put_refusal
 use Rattle.checksum.proofs.check_of.Reads as check_of_reads
-use Rattle.block.proofs.Version.byte.Reads as version_byte_reads
-use Rattle.block.proofs.Version.other.Reads as version_other
-use Rattle.block.proofs.Takes.takes.Reads as takes
 use Rattle.block.proofs.put_block.Reads as put_block
 use Rattle.block.proofs.is_good.Reads as is_good
 use Rattle.block.proofs.head_of.Reads as head_of
-use Rattle.block.proofs.agree.Reads as agree
 use Rattle.block.proofs.task_of.Reads as task_of
-use Rattle.card.proofs.version_for.Reads as version_for_reads
 use Rattle.card.proofs.write.Reads as card_write
 use Rattle.card.proofs.read.Reads as card_read
-use Rattle.mover.proofs.turn.Reads as turn
 use Rattle.salvaging.proofs.Fate.code.Reads as code
 use Rattle.salvaging.proofs.blocks_of.Reads as blocks_of_reads
 use Rattle.salvaging.proofs.salvage.Reads as salvage
@@ -105,12 +96,9 @@ pub record Entries : Type 2 where
   pub read : (κs : Lfts 1) → Answers (read.Learnt κs) (λ a. read_listing a.0.now)
   pub write_answers : (κs : Lfts 1) → Answers (write.Learnt κs) (λ a. write_answer a.0 (length a.1.0.now))
   pub write_leaves : (κs : Lfts 1) → Leaves (λ x. x.1.0.now) (write.Learnt κs) (λ a. written a.0 a.1.0.now)
-  pub card_read : (κs : Lfts 1) → Answers (card_read.Learnt κs) (λ a. read_archive a.0 a.1.0.now)
-  pub version_for_reads : Answers (version_for_reads.Learnt tt) (λ a. version_for a.0)
-  pub card_write_answers : (κs : Lfts 1) → Answers (card_write.Learnt κs) (λ a. archiving_answer a.0 a.1.0 (length a.1.1.0.now))
-  pub card_write_leaves : (κs : Lfts 1) → Leaves (λ x. x.1.1.0.now) (card_write.Learnt κs) (λ a. archiving a.0 a.1.0 a.1.1.0.now)
-  pub turn_answers : (κs : Lfts 2) → Answers (turn.Learnt κs) (λ a. turning_answer a.0 a.1.0.now (length a.1.1.0.now))
-  pub turn_leaves : (κs : Lfts 2) → Leaves (λ x. x.1.1.0.now) (turn.Learnt κs) (λ a. turned a.0 a.1.0.now a.1.1.0.now)
+  pub card_read : (κs : Lfts 1) → Answers (card_read.Learnt κs) (λ a. read_archive a.0.now)
+  pub card_write_answers : (κs : Lfts 1) → Answers (card_write.Learnt κs) (λ a. archiving_answer a.0 (length a.1.0.now))
+  pub card_write_leaves : (κs : Lfts 1) → Leaves (λ x. x.1.0.now) (card_write.Learnt κs) (λ a. archiving a.0 a.1.0.now)
   pub code : Answers (code.Learnt tt) (λ a. code_of a.0)
   pub blocks_of_reads : Answers (blocks_of_reads.Learnt tt) (λ a. blocks_of a.0)
   pub salvage_answers : (κs : Lfts 3) → Answers (salvage.Learnt κs) (λ a. salvage_answer a.0.now (length a.1.0.now) (length a.1.1.0.now))
@@ -161,18 +149,12 @@ pub record Determines : Type 0 where
   pub write : (κs : Lfts 1) → DeterminedWith (λ x. x.1.0.now) (write.Learnt κs)
   pub put_refusal : (κs : Lfts 1) → DeterminedWith (λ x. x.0.now) (put_refusal.Learnt κs)
   pub check_of_reads : (κs : Lfts 1) → Determined (check_of_reads.Learnt κs)
-  pub version_byte_reads : Determined (version_byte_reads.Learnt tt)
-  pub version_other : Determined (version_other.Learnt tt)
-  pub takes : Determined (takes.Learnt tt)
   pub put_block : (κs : Lfts 1) → DeterminedWith (λ x. x.0.now) (put_block.Learnt κs)
   pub is_good : (κs : Lfts 1) → Determined (is_good.Learnt κs)
   pub head_of : (κs : Lfts 1) → Determined (head_of.Learnt κs)
-  pub agree : Determined (agree.Learnt tt)
   pub task_of : (κs : Lfts 1) → Determined (task_of.Learnt κs)
   pub card_read : (κs : Lfts 1) → Determined (card_read.Learnt κs)
-  pub version_for_reads : Determined (version_for_reads.Learnt tt)
-  pub card_write : (κs : Lfts 1) → DeterminedWith (λ x. x.1.1.0.now) (card_write.Learnt κs)
-  pub turn : (κs : Lfts 2) → DeterminedWith (λ x. x.1.1.0.now) (turn.Learnt κs)
+  pub card_write : (κs : Lfts 1) → DeterminedWith (λ x. x.1.0.now) (card_write.Learnt κs)
   pub code : Determined (code.Learnt tt)
   pub blocks_of_reads : Determined (blocks_of_reads.Learnt tt)
   pub salvage : (κs : Lfts 3) → DeterminedWith {H = List ℕ × List ℕ} (λ x. (x.1.0.now, x.1.1.0.now)) (salvage.Learnt κs)
@@ -199,9 +181,8 @@ pub record Keeps : Type 0 where
   -- "a refused reading gives no table"
   pub table : (s : List ℕ) (r : Refusal) → (read_listing s).answer ≡ Refused r → (read_listing s).table ≡ empty_table
   -- and of an archive the same
-  pub archiving : (v : Version) (t : Table) (out : List ℕ) (r : Refusal) → archiving_fault v t (length out) ≡ Refused r → archiving v t out ≡ out
-  pub turning : (to : Version) (a out : List ℕ) (r : Refusal) → turning_fault to a (length out) ≡ Refused r → turned to a out ≡ out
-  pub card : (w : Takes) (a : List ℕ) (r : Refusal) → (read_archive w a).answer ≡ Refused r → (read_archive w a).table ≡ empty_table
+  pub archiving : (t : Table) (out : List ℕ) (r : Refusal) → archiving_fault t (length out) ≡ Refused r → archiving t out ≡ out
+  pub card : (a : List ℕ) (r : Refusal) → (read_archive a).answer ≡ Refused r → (read_archive a).table ≡ empty_table
 
 -- request 5/12 of document 02 amends this for the tool that mends cards: "After 14 or the table's own the list alone is written". In words: after 15 and 11 the list and the output
 -- are as they were; after 14 and the table's own the output is, and the list has an entry for each block, and past them what it had, as it has where nothing is refused

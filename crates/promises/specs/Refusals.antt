@@ -6,26 +6,20 @@ use Rattle.table.specs.declared.Level.{Level}
 use Rattle.table.specs.declared.Fault.{Fault}
 use Rattle.table.specs.declared.Table.{Table}
 use Rattle.table.specs.declared.Refusal.{Refusal}
-use Rattle.table.specs.declared.Checked.TheVariants.{Fine}
 use Rattle.table.specs.declared.Written.{Written}
 use Rattle.table.specs.declared.Written.TheVariants.{NotWritten}
 use Rattle.table.specs.Faults.{number_of, Told, Refuses}
 use Rattle.table.specs.Limits.{max_resources}
-use Rattle.table.specs.At.{group_at}
+use Rattle.table.specs.At.{group_at, NoGroup}
 use Rattle.table.specs.Rules.{table_fault}
 use Rattle.table.specs.Answers.{or_table}
 use Rattle.table.specs.Accepted.{Accepted}
 use Rattle.table.specs.Refusals.{InRange, CallsFor, RefusedAsCalled}
 use Rattle.meaning.specs.Refusals.{RefusedAsCalled as ListingRefusedAsCalled}
 use Rattle.writing.specs.Write.{text_of, write_answer}
-use Rattle.block.specs.declared.Version.{Version}
-use Rattle.block.specs.declared.Version.TheVariants.{One}
-use Rattle.block.specs.declared.Takes.TheVariants.{Only}
-use Rattle.block.specs.Block.{block_size, other_version}
-use Rattle.card.specs.Archive.{archiving_answer, table_in, read_archive}
-use Rattle.mover.specs.Turn.{turning_answer}
-use Rattle.release.specs.Undo.{Holds}
-use Rattle.release.specs.Refusals.{CallsFor as CardCallsFor, RefusedAsCalled as CardRefusedAsCalled}
+use Rattle.block.specs.Block.{block_size}
+use Rattle.card.specs.Archive.{archiving_answer}
+use Rattle.release.specs.Refusals.{RefusedAsCalled as CardRefusedAsCalled}
 use Rattle.salvaging.specs.Salvage.{salvage_answer}
 use Rattle.recovery.specs.Refusals.{SalvagedAsCalled, CallsFor as SpoiledCallsFor}
 use Rattle.theory.specs.Merge.{merged}
@@ -66,18 +60,11 @@ pub data OutputCallsFor (t : Table) (needed room : ℕ) : ℕ → ℕ → Type 0
   too_short : Accepted t → room < needed → OutputCallsFor t needed room 11 0
 
 -- the same of an archive, before whose 11 "20, writing a table that has a group as a card archive of version 1" comes: some resource has one, used or not
-pub data ArchivingCallsFor (v : Version) (t : Table) (room : ℕ) : ℕ → ℕ → Type 0 where
-  own : {number place : ℕ} → CallsFor t number place → ArchivingCallsFor v t room number place
-  has_group_reads : Accepted t → v ≡ One → (k : ℕ) → k < max_resources → 1 ≤ group_at t k → ArchivingCallsFor v t room 20 0
+pub data ArchivingCallsFor (t : Table) (room : ℕ) : ℕ → ℕ → Type 0 where
+  own : {number place : ℕ} → CallsFor t number place → ArchivingCallsFor t room number place
+  has_group_reads : Accepted t → (k : ℕ) → k < max_resources → 1 ≤ group_at t k → ArchivingCallsFor t room 20 0
   -- "a writer whose output is shorter than 512 × n bytes gives 11 last"
-  too_short : Accepted t → Holds v t → room < block_size * t.n → ArchivingCallsFor v t room 11 0
-
--- of an archive a that is to be turned into this version: what the reader of the other one refuses it with; "20 is given for moving back a table that has a group too, in the same place in the order"; and 11
-pub data TurningCallsFor (to : Version) (a : List ℕ) (room : ℕ) : ℕ → ℕ → Type 0 where
-  own : {number place : ℕ} → CardCallsFor (Only (other_version to)) a number place → TurningCallsFor to a room number place
-  has_group_reads : (read_archive (Only (other_version to)) a).answer ≡ Fine → to ≡ One → (k : ℕ) → k < max_resources → 1 ≤ group_at (table_in a) k → TurningCallsFor to a room 20 0
-  -- the archive that is written has as many bytes as the one that is read
-  too_short : (read_archive (Only (other_version to)) a).answer ≡ Fine → Holds to (table_in a) → room < length a → TurningCallsFor to a room 11 0
+  too_short : Accepted t → NoGroup t → room < block_size * t.n → ArchivingCallsFor t room 11 0
 
 -- ---- refused exactly if it is called for: the answer is a refusal with this number, at this place
 
@@ -97,7 +84,7 @@ pub record FirstDecides : Type 0 where
   pub table : RefusedAsCalled
   -- a listing, and a line of it
   pub listing : ListingRefusedAsCalled
-  -- an archive, for a reader of one version or of both: 12, 13 and 14, and then the table's own
+  -- an archive: 12, 13 and 14, and then the table's own
   pub card : CardRefusedAsCalled
   -- a card with bad blocks: 15, 11 and 14, and then the table's own; and what becomes of each block
   pub salvage : SalvagedAsCalled
@@ -115,8 +102,5 @@ pub record FirstDecides : Type 0 where
       → Refuses (analysis_fault t allowance room) number place exactly_if RowCallsFor t allowance room number place
   pub output : (t : Table) (room number place : ℕ)
       → NotWrote (write_answer t room) number place exactly_if OutputCallsFor t (length (text_of t)) room number place
-  pub archiving : (v : Version) (t : Table) (room number place : ℕ)
-      → NotWrote (archiving_answer v t room) number place exactly_if ArchivingCallsFor v t room number place
-  -- after the reader's own: of an archive that is turned
-  pub turning : (to : Version) (a : List ℕ) (room number place : ℕ)
-      → NotWrote (turning_answer to a room) number place exactly_if TurningCallsFor to a room number place
+  pub archiving : (t : Table) (room number place : ℕ)
+      → NotWrote (archiving_answer t room) number place exactly_if ArchivingCallsFor t room number place

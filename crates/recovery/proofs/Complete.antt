@@ -15,8 +15,6 @@ use Rattle.basics.proofs.JoinLaws.{join-eq}
 use Rattle.block.specs.Numbers.{byte_at}
 use Rattle.block.specs.Block.{head_in}
 use Rattle.card.specs.Archive.{block_at, blocks_in}
-use Rattle.release.specs.Refusals.{Agree}
-use Rattle.release.proofs.GoodLaws.{agree-is, is-agreed, agree_through}
 use Rattle.release.proofs.Parts.{parts_joined}
 use Rattle.salvaging.specs.Fates.{number_on, codes_of}
 use Rattle.salvaging.specs.Salvage.{left_at, left_in, first_left, head_left, joins, left_with, is_complete, place_of, Placed, in_order, mended}
@@ -51,15 +49,10 @@ module _ (s : List ℕ) where
 
   module _ (c : Completes s (codes_of s)) where
     joined : (i : ℕ) → i < blocks_in s → Left s i
-        → Agree (block_at s (first_left (codes_of s))) (block_at s i) × (1 ≤ byte_at (block_at s i) 5) × (byte_at (block_at s i) 5 ≤ (head_left s (codes_of s)).n)
+        → (byte_at (block_at s i) 3 ≡ byte_at (block_at s (first_left (codes_of s))) 3) × (byte_at (block_at s i) 4 ≡ (head_left s (codes_of s)).n)
+        × (1 ≤ byte_at (block_at s i) 5) × (byte_at (block_at s i) 5 ≤ (head_left s (codes_of s)).n)
     unfolding head_in
-    joined i h l =
-        let b = joins_is (head_left s (codes_of s)) (head_in (block_at s i)) (c.join i (omega (arith, codes_length s)) (is-left s i h l)) in
-        (agree-is (block_at s (first_left (codes_of s))) (block_at s i) b.0, b.1, b.2)
-
-    tasks-is : (i : ℕ) → i < blocks_in s → Left s i → byte_at (block_at s i) 4 ≡ (head_left s (codes_of s)).n
-    unfolding head_in
-    tasks-is i h l = (joined i h l).0.n
+    joined i h l = joins_is (head_left s (codes_of s)) (head_in (block_at s i)) (c.join i (omega (arith, codes_length s)) (is-left s i h l))
 
     each-is : (p : ℕ) → 1 ≤ p → p ≤ (head_left s (codes_of s)).n → (i : ℕ) × (i < blocks_in s) × Left s i × (byte_at (block_at s i) 5 ≡ p)
     each-is p l m =
@@ -73,8 +66,8 @@ module _ (s : List ℕ) where
     once_is i j h k l m e =
         let p : ℕ = byte_at (block_at s i) 5 in
         let b = joined i h l in
-        let d : p - 1 + 1 ≡ p = omega (arith, b.1) in
-        let o = c.once (p - 1) (omega (arith, b.1, b.2)) in
+        let d : p - 1 + 1 ≡ p = omega (arith, b.2) in
+        let o = c.once (p - 1) (omega (arith, b.2, b.3)) in
         let w = codes_length s in
         o.1.alone i (omega arith) (rw d (is-with i p h l refl)) ∙ sym (o.1.alone j (omega arith) (rw d (is-with j p k m (sym e))))
 
@@ -82,9 +75,9 @@ module _ (s : List ℕ) where
     completes-complete =
         record {
           some = (first_left (codes_of s), omega (arith, c.below, codes_length s), first-left c.below);
-          agree = λ i j h k l m. agree_through (joined i h l).0 (joined j k m).0;
-          tasks = tasks-is;
-          numbers = λ i h l. let b = joined i h l in (b.1, b.2);
+          cpus = λ i j h k l m. (joined i h l).0 ∙ sym (joined j k m).0;
+          tasks = λ i h l. (joined i h l).1;
+          numbers = λ i h l. let b = joined i h l in (b.2, b.3);
           each = each-is;
           once = once_is;
         }
@@ -115,7 +108,8 @@ module _ (s : List ℕ) (n : ℕ) (c : Complete s (blocks_in s) n) where
   all_join i h l =
       let b = c.numbers i h l in
       is_joins (head_left s (codes_of s)) (head_in (block_at s i))
-      (is-agreed (block_at s (first_left (codes_of s))) (block_at s i) (c.agree (first_left (codes_of s)) i first-in h (first-left s some_first) l))
+      (c.cpus i (first_left (codes_of s)) h first-in l (first-left s some_first))
+      (c.tasks i h l ∙ sym head-n)
       b.0
       (rw head-n b.1)
 

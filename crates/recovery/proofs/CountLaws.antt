@@ -12,7 +12,7 @@ use Rattle.basics.proofs.ChoiceLaws.{and_true, within_in, within_true}
 use Rattle.basics.proofs.AllLaws.{all_at, all_hold}
 use Rattle.basics.proofs.FirstIndexLaws.{first_is}
 use Rattle.block.specs.declared.Head.{Head}
-use Rattle.block.specs.Block.{head_in, agree}
+use Rattle.block.specs.Block.{head_in}
 use Rattle.card.specs.Archive.{block_at}
 use Rattle.basics.proofs.CountLaws.{count_some}
 use Rattle.salvaging.proofs.LeftLaws.{complete-left}
@@ -21,16 +21,17 @@ use Rattle.basics.proofs.OnceLaws.{and_both, pick_is, is_pick, some_count, Once,
 
 -- ---- the blocks left, of a list
 
-pub joins_is : (first h : Head) → joins first h ≡ true → (agree first h ≡ true) × (1 ≤ h.number) × (h.number ≤ first.n)
+pub joins_is : (first h : Head) → joins first h ≡ true → (h.cpus ≡ first.cpus) × (h.n ≡ first.n) × (1 ≤ h.number) × (h.number ≤ first.n)
 unfolding joins
 joins_is first h e =
-    let p = and_true (agree first h) (within 1 first.n h.number) e in
+    let p = and_true (eqb h.cpus first.cpus && eqb h.n first.n) (within 1 first.n h.number) e in
+    let q = and_true (eqb h.cpus first.cpus) (eqb h.n first.n) p.0 in
     let w = within_true 1 first.n h.number p.1 in
-    (p.0, w.0, w.1)
+    (eqb-true _ _ q.0, eqb-true _ _ q.1, w.0, w.1)
 
-pub is_joins : (first h : Head) → agree first h ≡ true → 1 ≤ h.number → h.number ≤ first.n → joins first h ≡ true
+pub is_joins : (first h : Head) → h.cpus ≡ first.cpus → h.n ≡ first.n → 1 ≤ h.number → h.number ≤ first.n → joins first h ≡ true
 unfolding joins
-is_joins first h a l m = rw (a, within_in 1 first.n h.number l m)
+is_joins first h c n l m = rw (eq-eqb h.cpus first.cpus c, eq-eqb h.n first.n n, within_in 1 first.n h.number l m)
 
 -- what makes them complete, as facts
 pub record Completes (s list : List ℕ) : Type 0 where

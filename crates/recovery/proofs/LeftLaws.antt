@@ -11,10 +11,10 @@ use Rattle.basics.specs.Over.{first_to}
 use Rattle.basics.proofs.ChoiceLaws.{and_true}
 use Rattle.basics.proofs.FirstIndexLaws.{first_is}
 use Rattle.basics.proofs.RowLaws.{row_at}
-use Rattle.block.specs.declared.Takes.TheVariants.{Both}
 use Rattle.block.specs.Numbers.{byte_at}
 use Rattle.block.specs.Block.{head_in}
 use Rattle.card.specs.Archive.{block_at, blocks_in}
+use Rattle.release.specs.Refusals.{GoodBlock}
 use Rattle.release.proofs.GoodLaws.{good-is, is_good}
 use Rattle.table.proofs.Deciding.{fails, failing}
 use Rattle.salvaging.specs.declared.Fate.{Fate}
@@ -22,14 +22,14 @@ use Rattle.salvaging.specs.declared.Fate.TheVariants.{Bad, Doubled, Kept, Moved}
 use Rattle.salvaging.specs.Fates.{code_of, good_at, number_on, same_bytes, is_doubled, fate_at, code_at, codes_of}
 use Rattle.salvaging.specs.Salvage.{left_at}
 use Rattle.salvaging.proofs.FateLaws.{same_is, is_same, fate-bad, fate-doubled, fate-kept, fate-moved}
-use Rattle.recovery.specs.Refusals.{Good, New, Left, Becomes, bad, doubled, kept, moved}
+use Rattle.recovery.specs.Refusals.{New, Left, Becomes, bad, doubled, kept, moved}
 use Rattle.basics.proofs.OnceLaws.{both, and_both, first_below}
 
 -- ---- doubled
 
 -- it equals an earlier good block
 abbrev Copy : List ℕ → ℕ → Type 0
-Copy s i = (j : ℕ) × (j < i) × Good (block_at s j) × (block_at s j ≡ block_at s i)
+Copy s i = (j : ℕ) × (j < i) × GoodBlock (block_at s j) × (block_at s j ≡ block_at s i)
 
 module _ (s : List ℕ) (i : ℕ) where
   doubled-is : is_doubled s i ≡ true → Copy s i
@@ -39,13 +39,13 @@ module _ (s : List ℕ) (i : ℕ) where
       let f : ℕ = first_to i test in
       let h = ltb-true f i e in
       let p = and_true (good_at s f) (same_bytes (block_at s f) (block_at s i)) ((first_is i test).found h) in
-      (f, h, good-is Both (block_at s f) p.0, same_is (block_at s f) (block_at s i) p.1)
+      (f, h, good-is (block_at s f) p.0, same_is (block_at s f) (block_at s i) p.1)
 
   is-doubled : Copy s i → is_doubled s i ≡ true
   unfolding is_doubled
   is-doubled (j, h, g, e) =
       let test : ℕ → Bool = λ k. good_at s k && same_bytes (block_at s k) (block_at s i) in
-      lt-ltb _ _ (first_below i j test h (and_both _ _ (is_good Both (block_at s j) g) (is_same (block_at s j) (block_at s i) e)))
+      lt-ltb _ _ (first_below i j test h (and_both _ _ (is_good (block_at s j) g) (is_same (block_at s j) (block_at s i) e)))
 
   new_is : is_doubled s i ≡ false → New s i
   new_is e j h g q = fails (is_doubled s i) is-doubled e (j, h, g, q)
@@ -53,11 +53,11 @@ module _ (s : List ℕ) (i : ℕ) where
   is-new : New s i → is_doubled s i ≡ false
   is-new n = failing (is_doubled s i) doubled-is (λ c. n c.0 c.1 c.2 c.3)
 
-  bad-is : good_at s i ≡ false → Good (block_at s i) → ⊥
-  bad-is e = fails (good_at s i) (is_good Both (block_at s i)) e
+  bad-is : good_at s i ≡ false → GoodBlock (block_at s i) → ⊥
+  bad-is e = fails (good_at s i) (is_good (block_at s i)) e
 
-  is-bad : (Good (block_at s i) → ⊥) → good_at s i ≡ false
-  is-bad n = failing (good_at s i) (good-is Both (block_at s i)) n
+  is-bad : (GoodBlock (block_at s i) → ⊥) → good_at s i ≡ false
+  is-bad n = failing (good_at s i) (good-is (block_at s i)) n
 
   pub number_is : number_on s i ≡ byte_at (block_at s i) 5
   unfolding head_in
@@ -72,15 +72,15 @@ module _ (s : List ℕ) (i : ℕ) where
       go : (b c d : Bool) → good_at s i ≡ b → is_doubled s i ≡ c → eqb (number_on s i) (i + 1) ≡ d
           → Becomes s i (pick (not b) Bad (pick c Doubled (pick d Kept Moved)))
       go false c d e f g = bad (bad-is e)
-      go true true d e f g = let x = doubled-is f in doubled x.0 (good-is Both (block_at s i) e) x.1 x.2 x.3
-      go true false true e f g = kept (good-is Both (block_at s i) e, new_is f) (sym number_is ∙ eqb-true _ _ g)
-      go true false false e f g = moved (good-is Both (block_at s i) e, new_is f) (λ q. both (eq-eqb _ _ (number_is ∙ q)) g)
+      go true true d e f g = let x = doubled-is f in doubled x.0 (good-is (block_at s i) e) x.1 x.2 x.3
+      go true false true e f g = kept (good-is (block_at s i) e, new_is f) (sym number_is ∙ eqb-true _ _ g)
+      go true false false e f g = moved (good-is (block_at s i) e, new_is f) (λ q. both (eq-eqb _ _ (number_is ∙ q)) g)
 
   pub fate-is : (f : Fate) → Becomes s i f → fate_at s i ≡ f
   fate-is _ (bad n) = fate-bad s i (is-bad n)
-  fate-is _ (doubled j g h x e) = fate-doubled s i (is_good Both (block_at s i) g) (is-doubled (j, h, x, e))
-  fate-is _ (kept l e) = fate-kept s i (is_good Both (block_at s i) l.0) (is-new l.1) (number_is ∙ e)
-  fate-is _ (moved l n) = fate-moved s i (is_good Both (block_at s i) l.0) (is-new l.1) (λ e. n (sym number_is ∙ e))
+  fate-is _ (doubled j g h x e) = fate-doubled s i (is_good (block_at s i) g) (is-doubled (j, h, x, e))
+  fate-is _ (kept l e) = fate-kept s i (is_good (block_at s i) l.0) (is-new l.1) (number_is ∙ e)
+  fate-is _ (moved l n) = fate-moved s i (is_good (block_at s i) l.0) (is-new l.1) (λ e. n (sym number_is ∙ e))
 
   -- ---- whether it is left
 

@@ -1,7 +1,7 @@
 -- What is written is an archive made of the input's blocks (specs/Recovered.antt).
 -- Assumes nothing.
 use Prim.Native.Nat.{ℕ, ◌<◌}
-use mathlib.Core.Path.{◌≡◌, ap, ◌∙◌}
+use mathlib.Core.Path.{◌≡◌, sym, ap, ◌∙◌}
 use mathlib.Core.List.{List}
 use native.Mathlib.Omega.{arith}
 use lib.ListN.{length}
@@ -11,14 +11,13 @@ use Rattle.table.specs.declared.Written.TheVariants.{Wrote}
 use Rattle.table.specs.Rules.{table_fault}
 use Rattle.table.proofs.Chain.{wrote_is}
 use Rattle.table.proofs.Acceptance.{fine_accepted}
-use Rattle.block.specs.declared.Takes.TheVariants.{Both}
 use Rattle.block.specs.Numbers.{byte_at}
 use Rattle.card.specs.Archive.{block_at, blocks_in, table_in, read_archive}
-use Rattle.release.specs.Refusals.{InPlace}
+use Rattle.release.specs.Refusals.{GoodBlock, InPlace}
 use Rattle.release.proofs.Parts.{Kept, kept_fine}
 use Rattle.salvaging.specs.Fates.{codes_of}
 use Rattle.salvaging.specs.Salvage.{head_left, mended, salvage_fault, salvage_answer, salvaged}
-use Rattle.recovery.specs.Refusals.{Good, Complete}
+use Rattle.recovery.specs.Refusals.{Complete}
 use Rattle.recovery.specs.Recovered.{written_of, Readable, NothingInvented}
 use Rattle.recovery.proofs.CardLaws.{Sound, fine-sound}
 use Rattle.recovery.proofs.Complete.{place_in, complete-is, placed, mended-length, mended-block}
@@ -35,19 +34,20 @@ module _ (s : List ℕ) (n : ℕ) (c : Complete s (blocks_in s) n) where
 
   in_place : (p : ℕ) → p < n → InPlace (mended s) n p
   in_place p h =
-      let l : 0 < n = omega arith in
       let x = placed s n c p h in
-      let y = placed s n c 0 l in
+      let y = placed s n c 0 (omega arith) in
+      let t = byte-is p 4 h ∙ c.tasks (place_in s p) x.0 x.1 in
       record {
-        agrees = rw (mended-block s n c 0 l, mended-block s n c p h) (c.agree (place_in s 0) (place_in s p) y.0 x.0 y.1 x.1);
-        n_blocks = byte-is p 4 h ∙ c.tasks (place_in s p) x.0 x.1;
+        cpus = byte-is p 3 h ∙ c.cpus (place_in s p) (place_in s 0) x.0 y.0 x.1 y.1 ∙ sym (byte-is 0 3 (omega arith));
+        n_first = t ∙ sym (byte-is 0 4 (omega arith) ∙ c.tasks (place_in s 0) y.0 y.1);
+        n_blocks = t;
         number = byte-is p 5 h ∙ x.2;
       }
 
-  mended-good : (p : ℕ) → p < n → Good (block_at (mended s) p)
+  mended-good : (p : ℕ) → p < n → GoodBlock (block_at (mended s) p)
   mended-good p h = rw (mended-block s n c p h) (placed s n c p h).1.0
 
-  mended-kept : table_fault (table_in (mended s)) ≡ Fine → Kept Both (mended s)
+  mended-kept : table_fault (table_in (mended s)) ≡ Fine → Kept (mended s)
   unfolding table_in
   mended-kept e =
       let g = fine_accepted (table_in (mended s)) e in
@@ -75,7 +75,7 @@ pub readable : Readable
 unfolding read_archive
 readable s out entries l e =
     let x = sound s out entries l e in
-    rw (written_is s out entries l e, kept_fine Both (mended s) (mended-kept s _ (complete-is s x.complete) x.table))
+    rw (written_is s out entries l e, kept_fine (mended s) (mended-kept s _ (complete-is s x.complete) x.table))
 
 pub nothing_invented : NothingInvented
 nothing_invented s out entries l e =

@@ -13,19 +13,17 @@ use Rattle.basics.specs.Over.{first_to}
 use Rattle.basics.proofs.JoinLaws.{join-eq}
 use Rattle.basics.proofs.FirstIndexLaws.{first_is}
 use Rattle.table.specs.declared.Checked.TheVariants.{Fine}
-use Rattle.block.specs.declared.Takes.TheVariants.{Both}
 use Rattle.block.specs.Numbers.{byte_at}
 use Rattle.card.specs.Archive.{block_at, blocks_in}
 use Rattle.card.proofs.ReadLaws.{accepted_is}
-use Rattle.release.specs.Refusals.{Agree}
-use Rattle.release.proofs.GoodLaws.{agree_through}
+use Rattle.release.specs.Refusals.{GoodBlock}
 use Rattle.release.proofs.Parts.{parts_joined, Kept, fine_kept}
 use Rattle.salvaging.specs.declared.Fate.TheVariants.{Kept as IsKept}
 use Rattle.salvaging.specs.Fates.{code_of, same_bytes, codes_of}
 use Rattle.salvaging.specs.Salvage.{mended, salvage_fault, salvage_answer, listed, salvaged}
 use Rattle.salvaging.proofs.FateLaws.{same_is, is_same}
 use Rattle.salvaging.proofs.FoundLaws.{codes_length}
-use Rattle.recovery.specs.Refusals.{WholeCard, Good, New, Left, Complete, Room, kept}
+use Rattle.recovery.specs.Refusals.{WholeCard, New, Left, Complete, Room, kept}
 use Rattle.recovery.specs.Recovered.{Gives, ReturnedAsItIs, Spoiled, GivenBack}
 use Rattle.basics.proofs.OnceLaws.{both, first_below}
 use Rattle.recovery.proofs.LeftLaws.{fate-is, code_is}
@@ -34,7 +32,7 @@ use Rattle.recovery.proofs.Complete.{is-complete, ordered-is}
 
 -- ---- the first block that is as another is left
 
-earliest : (s b : List ℕ) (k i : ℕ) → i < k → block_at s i ≡ b → Good b → (j : ℕ) × (j < k) × Left s j × (block_at s j ≡ b)
+earliest : (s b : List ℕ) (k i : ℕ) → i < k → block_at s i ≡ b → GoodBlock b → (j : ℕ) × (j < k) × Left s j × (block_at s j ≡ b)
 earliest s b k i h e g = (first_to k test, there, (rw is_b g, new), is_b)
   where
     test : ℕ → Bool
@@ -64,12 +62,12 @@ alike s i j l m e = go (dec_lt i j) (dec_lt j i)
 abbrev Among : List ℕ → List ℕ → Type 0
 Among a b = (p : ℕ) × (p < blocks_in a) × (b ≡ block_at a p)
 
-module _ (a s : List ℕ) (k : Kept Both a) (x : Spoiled a s (blocks_in s)) where
+module _ (a s : List ℕ) (k : Kept a) (x : Spoiled a s (blocks_in s)) where
   -- a block that is left is one of the archive's
   left-from : (i : ℕ) → i < blocks_in s → Left s i → Among a (block_at s i)
   left-from i h l = go (x.from i h)
     where
-      go : (Good (block_at s i) → ⊥) ⊎ Among a (block_at s i) → Among a (block_at s i)
+      go : (GoodBlock (block_at s i) → ⊥) ⊎ Among a (block_at s i) → Among a (block_at s i)
       go (inl n) = absurd (n l.0)
       go (inr y) = y
 
@@ -79,12 +77,12 @@ module _ (a s : List ℕ) (k : Kept Both a) (x : Spoiled a s (blocks_in s)) wher
 
   -- what a block that is left says
   left-says : (i : ℕ) (h : i < blocks_in s) (l : Left s i)
-      → Agree (block_at a 0) (block_at s i) × (byte_at (block_at s i) 4 ≡ blocks_in a) × (byte_at (block_at s i) 5 ≡ (left-from i h l).0 + 1)
+      → (byte_at (block_at s i) 3 ≡ byte_at (block_at a 0) 3) × (byte_at (block_at s i) 4 ≡ blocks_in a) × (byte_at (block_at s i) 5 ≡ (left-from i h l).0 + 1)
   left-says i h l =
       let y = left-from i h l in
       let g = (k.good y.0 y.1).1 in
       let byte : (b : ℕ) → byte_at (block_at s i) b ≡ byte_at (block_at a y.0) b = λ b. ap (λ (z : List ℕ). byte_at z b) y.2 in
-      (rw y.2 g.agrees, byte 4 ∙ g.n_blocks, byte 5 ∙ g.number)
+      (byte 3 ∙ g.cpus, byte 4 ∙ g.n_blocks, byte 5 ∙ g.number)
 
   spoiled-once : (i j : ℕ) → i < blocks_in s → j < blocks_in s → Left s i → Left s j → byte_at (block_at s i) 5 ≡ byte_at (block_at s j) 5 → i ≡ j
   spoiled-once i j h m l n e =
@@ -97,7 +95,7 @@ module _ (a s : List ℕ) (k : Kept Both a) (x : Spoiled a s (blocks_in s)) wher
   spoiled-complete =
       record {
         some = let y = left-each 0 k.whole.least in (y.0, y.1, y.2);
-        agree = λ i j h m l n. agree_through (left-says i h l).0 (left-says j m n).0;
+        cpus = λ i j h m l n. (left-says i h l).0 ∙ sym (left-says j m n).0;
         tasks = λ i h l. (left-says i h l).1;
         numbers = λ i h l. let e = (left-says i h l).2 in (omega arith, omega (arith, (left-from i h l).1));
         each = λ p l h.
@@ -133,11 +131,11 @@ module _ (a s : List ℕ) (k : Kept Both a) (x : Spoiled a s (blocks_in s)) wher
 pub given_back : GivenBack
 given_back a s list out t k e w x r =
     let b = card_blocks w in
-    given-all a s (fine_kept Both a (accepted_is Both a t e).0) (rw b x) list out (rw b w) (rw b r)
+    given-all a s (fine_kept a (accepted_is a t e).0) (rw b x) list out (rw b w) (rw b r)
 
 -- ---- a good archive
 
-module _ (a : List ℕ) (k : Kept Both a) where
+module _ (a : List ℕ) (k : Kept a) where
   -- no two blocks are alike: their numbers are their positions
   all_left : (i : ℕ) → i < blocks_in a → Left a i
   all_left i h = ((k.good i h).0, new)
@@ -166,5 +164,5 @@ module _ (a : List ℕ) (k : Kept Both a) where
 
 pub returned_as_it_is : ReturnedAsItIs
 returned_as_it_is a list out t e r =
-    let k = fine_kept Both a (accepted_is Both a t e).0 in
+    let k = fine_kept a (accepted_is a t e).0 in
     rw (← all-kept a k) (given-all a a k (as-it-is a k) list out (as-card a k) r)

@@ -2,24 +2,16 @@
 use Rattle.std.specs.Prelude.{ℕ, ◌≡◌, Bool, true, false, List, [], ◌∷◌, ◌++◌, map, set, replicate}
 use Rattle.table.specs.declared.Checked.TheVariants.{Fine}
 use Rattle.table.specs.declared.Fault.TheVariants.{BadTimes, TooShort, Mismatch, BadCard}
-use Rattle.table.specs.Empty.{unused_pair, no_groups}
+use Rattle.table.specs.Empty.{unused_pair}
 use Rattle.table.specs.At.{a_task}
 use Rattle.table.specs.Faults.{at}
 use Rattle.block.specs.Block.{block_of}
 use Rattle.salvaging.specs.Fates.{codes_of}
 use Rattle.salvaging.specs.Salvage.{is_complete, in_order, left_fault, salvage_fault}
 
--- the block of a version, groups, m, n, a task number and C, of a task with T and D 10
-abbrev block_with : ℕ → List ℕ → ℕ → ℕ → ℕ → ℕ → List ℕ
-block_with version groups m n number C = block_of (record { version = version; cpus = m; n = n; number = number; groups = groups }) (a_task 10 C 10 (replicate 16 unused_pair))
-
--- in version 1
+-- the block of m, n, a task number and C, of a task with T and D 10
 abbrev block : ℕ → ℕ → ℕ → ℕ → List ℕ
-block = block_with 1 no_groups
-
--- in version 2, with resource 1 in this group
-abbrev second : ℕ → ℕ → ℕ → List ℕ
-second group number C = block_with 2 (group ∷ replicate 15 0) 4 2 number C
+block m n number C = block_of (record { cpus = m; n = n; number = number }) (a_task 10 C 10 (replicate 16 unused_pair))
 
 -- an archive of two tasks; block 1 spoiled
 abbrev one : List ℕ
@@ -57,11 +49,6 @@ cases =
     ∷ case (one ++ block 4 3 2 2) (2 ∷ 2 ∷ []) false
     ∷ case (block 4 2 0 1 ++ one ++ two) (3 ∷ 3 ∷ 3 ∷ []) false
     ∷ case (one ++ two ++ block 4 2 3 1) (2 ∷ 2 ∷ 2 ∷ []) false
-    -- version 2; a block of each version; other groups; a group in version 1
-    ∷ case (second 3 2 2 ++ second 3 1 1) (3 ∷ 3 ∷ []) true
-    ∷ case (one ++ second 0 2 2) (2 ∷ 2 ∷ []) false
-    ∷ case (second 0 1 1 ++ second 3 2 2) (2 ∷ 2 ∷ []) false
-    ∷ case (block_with 1 (3 ∷ replicate 15 0) 4 1 1 1) (0 ∷ []) false
     ∷ []
 
 pub record CasesHold : Type 0 where

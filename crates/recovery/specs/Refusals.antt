@@ -1,4 +1,4 @@
--- Request 5/12 of document 02, its list, its completeness and its refusals said a second way; over the versions of request 10/12.
+-- Request 5/12 of document 02, its list, its completeness and its refusals said a second way.
 use Rattle.std.specs.Prelude.{ℕ, ◌+◌, ◌*◌, ◌≤◌, ◌<◌, ◌≡◌, ◌⊎◌, List, length}
 use Rattle.basics.specs.Exactly.{◌exactly_if◌}
 use Rattle.table.specs.declared.Checked.TheVariants.{Fine}
@@ -6,11 +6,10 @@ use Rattle.table.specs.Limits.{max_tasks}
 use Rattle.table.specs.Faults.{Refuses}
 use Rattle.table.specs.Accepted.{Accepted}
 use Rattle.table.specs.Refusals.{CallsFor as TableCallsFor}
-use Rattle.block.specs.declared.Takes.TheVariants.{Both}
 use Rattle.block.specs.Numbers.{byte_at}
 use Rattle.block.specs.Block.{block_size}
 use Rattle.card.specs.Archive.{block_at, table_in}
-use Rattle.release.specs.Refusals.{GoodBlock, Agree}
+use Rattle.release.specs.Refusals.{GoodBlock}
 use Rattle.salvaging.specs.declared.Fate.{Fate}
 use Rattle.salvaging.specs.declared.Fate.TheVariants.{Bad, Doubled, Kept, Moved}
 use Rattle.salvaging.specs.Fates.{fate_at}
@@ -22,25 +21,21 @@ pub record WholeCard (s : List ℕ) (k : ℕ) : Type 0 where
   pub most : k ≤ max_blocks
   pub long : length s ≡ block_size * k
 
--- "those that 13 would not refuse", of the reader of both versions
-abbrev pub Good : List ℕ → Type 0
-Good = GoodBlock Both
-
 -- ---- what becomes of block i + 1
 
 -- it equals no earlier good block
 abbrev pub New : List ℕ → ℕ → Type 0
-New s i = (j : ℕ) → j < i → Good (block_at s j) → block_at s j ≡ block_at s i → ⊥
+New s i = (j : ℕ) → j < i → GoodBlock (block_at s j) → block_at s j ≡ block_at s i → ⊥
 
 -- it is left: neither bad nor doubled
 abbrev pub Left : List ℕ → ℕ → Type 0
-Left s i = Good (block_at s i) × New s i
+Left s i = GoodBlock (block_at s i) × New s i
 
 pub data Becomes (s : List ℕ) (i : ℕ) : Fate → Type 0 where
   -- "bad if 13 would refuse it"
-  bad : (Good (block_at s i) → ⊥) → Becomes s i Bad
+  bad : (GoodBlock (block_at s i) → ⊥) → Becomes s i Bad
   -- "doubled if it equals an earlier good block byte for byte"
-  doubled : (j : ℕ) → Good (block_at s i) → j < i → Good (block_at s j) → block_at s j ≡ block_at s i → Becomes s i Doubled
+  doubled : (j : ℕ) → GoodBlock (block_at s i) → j < i → GoodBlock (block_at s j) → block_at s j ≡ block_at s i → Becomes s i Doubled
   -- "kept if its number is its position"
   kept : Left s i → byte_at (block_at s i) 5 ≡ i + 1 → Becomes s i Kept
   -- "and moved otherwise"
@@ -51,8 +46,8 @@ pub data Becomes (s : List ℕ) (i : ℕ) : Fate → Type 0 where
 pub record Complete (s : List ℕ) (k n : ℕ) : Type 0 where
   -- "at least one block is left"
   pub some : (i : ℕ) × (i < k) × Left s i
-  -- "all left agree on processors and n", and "all left must agree in version and groups too"
-  pub agree : (i j : ℕ) → i < k → j < k → Left s i → Left s j → Agree (block_at s i) (block_at s j)
+  -- "all left agree on processors and n"
+  pub cpus : (i j : ℕ) → i < k → j < k → Left s i → Left s j → byte_at (block_at s i) 3 ≡ byte_at (block_at s j) 3
   pub tasks : (i : ℕ) → i < k → Left s i → byte_at (block_at s i) 4 ≡ n
   -- "and their numbers are 1 to n"
   pub numbers : (i : ℕ) → i < k → Left s i → (1 ≤ byte_at (block_at s i) 5) × (byte_at (block_at s i) 5 ≤ n)

@@ -1,6 +1,6 @@
 -- A block that was written is good, and says what was written.
 -- Assumes nothing.
-use Prim.Native.Nat.{ℕ, ◌+◌, ◌-◌, ◌*◌, ◌%◌, ◌≤◌, ◌<◌}
+use Prim.Native.Nat.{ℕ, ◌+◌, ◌-◌, ◌*◌, ◌≤◌, ◌<◌}
 use mathlib.Core.Path.{◌≡◌, refl, sym, ap, ◌∙◌}
 use mathlib.Core.Logic.{◌⊎◌, inl, inr}
 use mathlib.Core.List.{List, ◌++◌, append_assoc}
@@ -8,7 +8,6 @@ use native.Mathlib.Omega.{arith}
 use native.Mathlib.Decide.{ℕ_discrete}
 use lib.ListN.{length, take, replicate, length-append, length-replicate, get_or-replicate, get_or-append}
 use lib.Seq.{take_at, get_or-append-add}
-use Rattle.basics.specs.Over.{row_to}
 use Rattle.basics.proofs.JoinLaws.{join-at}
 use Rattle.basics.proofs.RowLaws.{row-eq}
 use Rattle.table.specs.declared.Pair.{Pair}
@@ -17,23 +16,18 @@ use Rattle.table.specs.Limits.{max_resources}
 use Rattle.table.specs.At.{with_alpha, pair_of}
 use Rattle.table.specs.Cleared.{cleared_task}
 use Rattle.checksum.specs.Sum.{check_of}
-use Rattle.block.specs.declared.Takes.{Takes}
 use Rattle.block.specs.declared.Head.{Head}
 use Rattle.block.specs.Numbers.{in_bytes, byte_at, number_at}
-use Rattle.block.specs.Block.{head_bytes, times_bytes, entry_bytes, entries_bytes, group_on, groups_bytes, body_of, block_of, head_in, pair_in, task_in}
-use Rattle.block.proofs.NumberLaws.{bytes_length}
-use Rattle.block.proofs.BlockLaws.{head_length, times_length, entry_length, entries_length, groups_length, body_length, block_length}
-use Rattle.release.specs.Refusals.{Taken, GoodBlock}
+use Rattle.block.specs.Block.{head_bytes, times_bytes, entry_bytes, entries_bytes, body_of, block_of, head_in, pair_in, task_in}
+use Rattle.block.proofs.BlockLaws.{head_length, times_length, entry_length, entries_length, body_length, block_length}
+use Rattle.release.specs.Refusals.{GoodBlock}
 use Rattle.release.proofs.NumberBack.{number_eq, one_back, two_back, four_back}
-use Rattle.release.proofs.GoodLaws.{taken_either}
 
 -- the numbers fit their bytes
 pub record Fits (h : Head) (x : Task) : Type 0 where
-  pub version : h.version < 256
   pub cpus : h.cpus < 256
   pub n : h.n < 256
   pub number : h.number < 256
-  pub groups : (k : ℕ) → k < max_resources → group_on h k < 256
   pub period : x.period < 4_294_967_296
   pub run : x.run < 4_294_967_296
   pub deadline : x.deadline < 4_294_967_296
@@ -52,19 +46,19 @@ unfolding entry_bytes in_bytes number_at
 entry_numbers p n c ct = (two_back _ n, four_back _ c, four_back _ ct)
 
 module _ (h : Head) (x : Task) where
-  -- the bytes before the groups, and those from there on
+  -- the bytes before the zeros, and those from there on
   abbrev front : List ℕ
   front = head_bytes h ++ times_bytes x ++ entries_bytes x
 
   abbrev back : List ℕ
-  back = groups_bytes h ++ (replicate 314 0 ++ in_bytes 2 (check_of (body_of h x)))
+  back = replicate 330 0 ++ in_bytes 2 (check_of (body_of h x))
 
   front_length : length front ≡ 180
   front_length = simp length-append (omega (arith, head_length h, times_length x, entries_length x))
 
   parted : block_of h x ≡ front ++ back
   unfolding block_of body_of
-  parted = simp append_assoc
+  parted = append_assoc front (replicate 330 0) (in_bytes 2 (check_of (body_of h x)))
 
   -- an entry's bytes
   entry_at : (k j : ℕ) → k < max_resources → j < 10 → byte_at (entries_bytes x) (10 * k + j) ≡ byte_at (entry_bytes (pair_of x k)) j
@@ -81,34 +75,17 @@ module _ (h : Head) (x : Task) where
       ∙ get_or-append (entries_bytes x) back 0 (10 * k + j) (omega (arith, entries_length x))
       ∙ entry_at k j l m)
 
-  -- and those from the groups on
+  -- and those from the zeros on
   back-byte : (i j : ℕ) → i ≡ 180 + j → byte_at (block_of h x) i ≡ byte_at back j
   back-byte i j e =
       let q : i ≡ length front + j = omega (arith, front_length) in
       rw (parted, q) (get_or-append-add front back j 0)
 
-  -- a group's byte
-  group_at : (k : ℕ) → k < max_resources → byte_at (groups_bytes h) k ≡ group_on h k % 256
-  unfolding groups_bytes in_bytes
-  group_at k l =
-      let e : 1 * k + 0 ≡ k = omega arith in
-      rw e at (join-at 16 1 k 0 (λ i. in_bytes 1 (group_on h i)) 0 (λ i _. bytes_length 1 (group_on h i)) l (omega arith))
-
-  group-byte : (k : ℕ) → k < max_resources → byte_at (block_of h x) (180 + k) ≡ group_on h k % 256
-  group-byte k l = back-byte (180 + k) k refl ∙ get_or-append (groups_bytes h) _ 0 k (omega (arith, groups_length h)) ∙ group_at k l
-
-  -- and those behind the groups
-  last_byte : (j : ℕ) → byte_at (block_of h x) (196 + j) ≡ byte_at (replicate 314 0 ++ in_bytes 2 (check_of (body_of h x))) j
-  last_byte j =
-      let q : 16 + j ≡ length (groups_bytes h) + j = omega (arith, groups_length h) in
-      back-byte (196 + j) (16 + j) (omega arith) ∙ rw q (get_or-append-add (groups_bytes h) _ j 0)
-
   check-byte : (j : ℕ) → byte_at (block_of h x) (510 + j) ≡ byte_at (in_bytes 2 (check_of (body_of h x))) (0 + j)
   check-byte j =
-      let e : 510 + j ≡ 196 + (314 + j) = omega arith in
-      let q : 314 + j ≡ length (replicate {A = ℕ} 314 0) + j = omega (arith, length-replicate {A = ℕ} 314 0) in
+      let q : 330 + j ≡ length (replicate {A = ℕ} 330 0) + j = omega (arith, length-replicate {A = ℕ} 330 0) in
       let z : 0 + j ≡ j = omega arith in
-      ap (byte_at (block_of h x)) e ∙ last_byte (314 + j) ∙ rw (q, z) (get_or-append-add (replicate 314 0) (in_bytes 2 (check_of (body_of h x))) j 0)
+      back-byte (510 + j) (330 + j) (omega arith) ∙ rw (q, z) (get_or-append-add (replicate 330 0) (in_bytes 2 (check_of (body_of h x))) j 0)
 
   check-back : number_at (block_of h x) 510 2 ≡ check_of (take 510 (block_of h x))
   unfolding block_of
@@ -121,46 +98,25 @@ module _ (h : Head) (x : Task) where
   unfolding block_of body_of head_bytes in_bytes
   head-zeros = (refl, refl)
 
-  zeros-back : (i : ℕ) → ((6 ≤ i) × (i < 8)) ⊎ ((196 ≤ i) × (i < 510)) → byte_at (block_of h x) i ≡ 0
+  zeros-back : (i : ℕ) → ((6 ≤ i) × (i < 8)) ⊎ ((180 ≤ i) × (i < 510)) → byte_at (block_of h x) i ≡ 0
   zeros-back i (inl l) = go (ℕ_discrete i 6)
     where
       go : Dec (i ≡ 6) → byte_at (block_of h x) i ≡ 0
       go (yes e) = rw e head-zeros.0
       go (no d) = let e : i ≡ 7 = omega arith in rw e head-zeros.1
   zeros-back i (inr l) =
-      let e : i ≡ 196 + (i - 196) = omega arith in
-      ap (byte_at (block_of h x)) e ∙ last_byte (i - 196)
-      ∙ get_or-append (replicate 314 0) (in_bytes 2 (check_of (body_of h x))) 0 (i - 196) (omega (arith, length-replicate {A = ℕ} 314 0))
-      ∙ get_or-replicate 314 (i - 196) 0 0 (omega arith)
+      back-byte i (i - 180) (omega arith)
+      ∙ get_or-append (replicate 330 0) (in_bytes 2 (check_of (body_of h x))) 0 (i - 180) (omega (arith, length-replicate {A = ℕ} 330 0))
+      ∙ get_or-replicate 330 (i - 180) 0 0 (omega arith)
 
-  -- of a version that is taken, and without groups in version 1
-  pub good-back : (w : Takes) → Taken w h.version → (h.version ≡ 1 → (k : ℕ) → k < max_resources → group_on h k ≡ 0) → GoodBlock w (block_of h x)
+  pub good-back : GoodBlock (block_of h x)
   unfolding block_of body_of head_bytes in_bytes
-  good-back w v z =
-      let b : h.version % 256 ≡ h.version = go (taken_either w v) in
-      record {
-        long = block_length h x;
-        check = check-back;
-        mark = (refl, refl);
-        version = rw b v;
-        zeros = zeros-back;
-        ungrouped = λ e i l m.
-            let j : i ≡ 180 + (i - 180) = omega arith in
-            let n : h.version ≡ 1 = sym b ∙ e in
-            let y : group_on h (i - 180) ≡ 0 = z n (i - 180) (omega arith) in
-            ap (byte_at (block_of h x)) j ∙ group-byte (i - 180) (omega arith) ∙ rw y;
-      }
-    where
-      go : (h.version ≡ 1) ⊎ (h.version ≡ 2) → h.version % 256 ≡ h.version
-      go (inl e) = rw e
-      go (inr e) = rw e
+  good-back = record { long = block_length h x; check = check-back; mark = (refl, refl); version = refl; zeros = zeros-back }
 
   module _ (f : Fits h x) where
-    pub head-back : head_in (block_of h x) ≡ record { version = h.version; cpus = h.cpus; n = h.n; number = h.number; groups = row_to max_resources (group_on h) }
+    pub head-back : head_in (block_of h x) ≡ h
     unfolding head_in block_of body_of head_bytes in_bytes
-    head-back =
-        let g = row-eq max_resources (λ k. byte_at (block_of h x) (180 + k)) (group_on h) (λ k l. group-byte k l ∙ one_back _ (f.groups k l)) in
-        λ i. record { version = one_back _ f.version i; cpus = one_back _ f.cpus i; n = one_back _ f.n i; number = one_back _ f.number i; groups = g i }
+    head-back = λ i. record { cpus = one_back _ f.cpus i; n = one_back _ f.n i; number = one_back _ f.number i }
 
     times-back : (number_at (block_of h x) 8 4 ≡ x.period) × (number_at (block_of h x) 12 4 ≡ x.run) × (number_at (block_of h x) 16 4 ≡ x.deadline)
     unfolding block_of body_of head_bytes times_bytes in_bytes number_at

@@ -15,20 +15,18 @@ use Rattle.table.specs.Limits.{max_resources}
 use Rattle.table.specs.Empty.{unused_pair}
 use Rattle.table.specs.At.{pair_of}
 use Rattle.checksum.specs.Sum.{check_of}
-use Rattle.block.specs.declared.Takes.{Takes}
 use Rattle.block.specs.Numbers.{in_bytes, byte_at, number_at}
-use Rattle.block.specs.Block.{head_bytes, times_bytes, entry_bytes, entries_bytes, group_on, groups_bytes, body_of, block_of, head_in, pair_in, task_in}
+use Rattle.block.specs.Block.{head_bytes, times_bytes, entry_bytes, entries_bytes, body_of, block_of, head_in, pair_in, task_in}
 use Rattle.block.proofs.NumberLaws.{number_two}
 use Rattle.block.proofs.BlockLaws.{body_length}
 use Rattle.release.specs.Undo.{Bytes}
 use Rattle.release.specs.Refusals.{GoodBlock}
 use Rattle.release.proofs.NumberBack.{put_back}
-use Rattle.release.proofs.GoodLaws.{group_on_lem}
 
-five_parts : (a b c d e f : List ℕ) → a ++ b ++ c ++ d ++ e ++ f ≡ a ++ (b ++ (c ++ (d ++ (e ++ f))))
-five_parts a b c d e f = simp append_assoc
+four_parts : (a b c d e : List ℕ) → a ++ b ++ c ++ d ++ e ≡ a ++ (b ++ (c ++ (d ++ e)))
+four_parts a b c d e = simp append_assoc
 
-module _ (w : Takes) (s : List ℕ) (bytes : Bytes s) (g : GoodBlock w s) where
+module _ (s : List ℕ) (bytes : Bytes s) (g : GoodBlock s) where
   -- a number x in k bytes from a place on, and what stands behind it
   field_is : (at k next x : ℕ) → at + k ≡ next → next ≤ 512 → number_at s at k ≡ x → {z : List ℕ} → drop next s ≡ z → drop at s ≡ in_bytes k x ++ z
   field_is at k next x e h f q = put_back s bytes at k (omega (arith, g.long)) ∙ rw (e, f, q)
@@ -43,7 +41,7 @@ module _ (w : Takes) (s : List ℕ) (bytes : Bytes s) (g : GoodBlock w s) where
       let mark : number_at s 0 2 ≡ 0x5442 = sym (number_two s 0) ∙ omega (arith, g.mark.0, g.mark.1) in
       let rest : number_at s 6 2 ≡ 0 = sym (number_two s 6) ∙ omega (arith, g.zeros 6 (inl (omega arith, omega arith)), g.zeros 7 (inl (omega arith, omega arith))) in
       field_is 0 2 2 0x5442 refl (omega arith) mark
-      (field_is 2 1 3 (byte_at s 2) refl (omega arith) (byte-is 2)
+      (field_is 2 1 3 1 refl (omega arith) (byte-is 2 ∙ g.version)
       (field_is 3 1 4 (byte_at s 3) refl (omega arith) (byte-is 3)
       (field_is 4 1 5 (byte_at s 4) refl (omega arith) (byte-is 4)
       (field_is 5 1 6 (byte_at s 5) refl (omega arith) (byte-is 5)
@@ -76,20 +74,7 @@ module _ (w : Takes) (s : List ℕ) (bytes : Bytes s) (g : GoodBlock w s) where
       ∙ ap (λ (l : List ℕ). l ++ drop 180 s)
       (join-eq 16 (λ j. entry_bytes (pair_in s j)) (λ j. entry_bytes (pair_of (task_in s) j)) (λ j h. ap entry_bytes (sym (row_at 16 j (pair_in s) unused_pair h))))
 
-  -- a group is a byte
-  groups-to : (k : ℕ) → k ≤ max_resources → drop 180 s ≡ join_to k (λ j. in_bytes 1 (byte_at s (180 + j))) ++ drop (180 + k) s
-  groups-to zero h = rw join-none
-  groups-to (suc k) h =
-      let n : suc k ≡ k + 1 = omega arith in
-      groups-to k (omega arith) ∙ rw (n, join_more, append_assoc, field_is (180 + k) 1 (180 + (k + 1)) (byte_at s (180 + k)) (omega arith) (omega arith) (byte-is (180 + k)) refl)
-
-  groups-are : drop 180 s ≡ groups_bytes (head_in s) ++ drop 196 s
-  unfolding groups_bytes
-  groups-are =
-      groups-to 16 (omega arith)
-      ∙ ap (λ (l : List ℕ). l ++ drop 196 s) (join-eq 16 (λ j. in_bytes 1 (byte_at s (180 + j))) (λ j. in_bytes 1 (group_on (head_in s) j)) (λ j h. ap (in_bytes 1) (sym (group_on_lem s j h))))
-
-  zeros-from : (n at : ℕ) → at + n ≤ 510 → 196 ≤ at → drop at s ≡ replicate n 0 ++ drop (at + n) s
+  zeros-from : (n at : ℕ) → at + n ≤ 510 → 180 ≤ at → drop at s ≡ replicate n 0 ++ drop (at + n) s
   zeros-from zero at h l = rw add-zero
   zeros-from (suc n) at h l =
       drop-cons s at 0 (omega (arith, g.long))
@@ -100,11 +85,8 @@ module _ (w : Takes) (s : List ℕ) (bytes : Bytes s) (g : GoodBlock w s) where
   body_is =
       head-is
       ∙ ap (λ (z : List ℕ). head_bytes (head_in s) ++ z)
-      (times-are
-      ∙ ap (λ (z : List ℕ). times_bytes (task_in s) ++ z)
-      (entries-are
-      ∙ ap (λ (z : List ℕ). entries_bytes (task_in s) ++ z) (groups-are ∙ ap (λ (z : List ℕ). groups_bytes (head_in s) ++ z) (zeros-from 314 196 (omega arith) (omega arith)))))
-      ∙ sym (five_parts (head_bytes (head_in s)) (times_bytes (task_in s)) (entries_bytes (task_in s)) (groups_bytes (head_in s)) (replicate 314 0) (drop 510 s))
+      (times-are ∙ ap (λ (z : List ℕ). times_bytes (task_in s) ++ z) (entries-are ∙ ap (λ (z : List ℕ). entries_bytes (task_in s) ++ z) (zeros-from 330 180 (omega arith) (omega arith))))
+      ∙ sym (four_parts (head_bytes (head_in s)) (times_bytes (task_in s)) (entries_bytes (task_in s)) (replicate 330 0) (drop 510 s))
 
   pub block-is : block_of (head_in s) (task_in s) ≡ s
   unfolding block_of

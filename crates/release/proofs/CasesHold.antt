@@ -7,15 +7,10 @@ use Rattle.table.specs.Rules.{times_in_range, times_in_order, times_fault, group
 use Rattle.table.specs.Cleared.{cleared_task, cleared}
 use Rattle.checksum.specs.Sum.{word_at, ones_plus, ones_sum, check_of}
 use Rattle.block.specs.Numbers.{in_bytes, number_at}
-use Rattle.block.specs.Block.{head_bytes, times_bytes, entry_bytes, entries_bytes, groups_bytes, body_of, block_of, zeros_from, marked_block, good_block, head_in, agree, pair_in, task_in}
-use Rattle.card.specs.Archive.{is_length, in_place, block_fault, blocks_fault, table_in, archive_fault, read_archive}
-use Rattle.release.specs.Cases.{BlockCasesHold, ArchiveCasesHold}
+use Rattle.block.specs.Block.{head_bytes, times_bytes, entry_bytes, entries_bytes, body_of, block_of, marked_block, good_block, head_in, pair_in, task_in}
+use Rattle.card.specs.Archive.{is_length, agrees, block_fault, blocks_fault, table_in, archive_fault, read_archive}
+use Rattle.release.specs.Cases.{CasesHold}
 
-pub block_cases_hold : BlockCasesHold
-unfolding sum_to all_to join_to word_at ones_plus ones_sum check_of in_bytes number_at head_bytes times_bytes entry_bytes entries_bytes groups_bytes body_of block_of zeros_from marked_block good_block head_in pair_in task_in
-block_cases_hold =
-    record { begins = refl; checks = refl; second_begins = refl; second_same = refl; second_checks = refl; groups_at = refl; groups_checks = refl; good = refl; bad = refl; versions = refl; read = refl; head_read = refl; largest = refl }
-
-pub archive_cases_hold : ArchiveCasesHold
-unfolding sum_to all_to join_to first_fault times_in_range times_in_order times_fault groups_in_range is_unused used_in_range pair_in_range totals_fit pair_fault pairs_fault alpha_fault task_fault last_alpha tasks_fault table_fault empty_task empty_table cleared_task cleared is_length in_place block_fault blocks_fault table_in archive_fault read_archive word_at ones_plus ones_sum check_of in_bytes number_at head_bytes times_bytes entry_bytes entries_bytes groups_bytes body_of block_of zeros_from marked_block good_block head_in agree pair_in task_in
-archive_cases_hold = record { archive = refl; archive_grouped = refl; refusals = refl; version_refusals = refl }
+pub cases_hold : CasesHold
+unfolding sum_to all_to join_to first_fault times_in_range times_in_order times_fault groups_in_range is_unused used_in_range pair_in_range totals_fit pair_fault pairs_fault alpha_fault task_fault last_alpha tasks_fault table_fault empty_task empty_table cleared_task cleared is_length agrees block_fault blocks_fault table_in archive_fault read_archive word_at ones_plus ones_sum check_of in_bytes number_at head_bytes times_bytes entry_bytes entries_bytes body_of block_of marked_block good_block head_in pair_in task_in
+cases_hold = record { begins = refl; checks = refl; good = refl; bad = refl; read = refl; head_read = refl; largest = refl; archive = refl; refusals = refl }

@@ -8,8 +8,6 @@
 --   Changed      one byte changed changes the check
 --   Noticed      an accepted archive with one byte changed is refused
 --   Called       an archive is refused exactly as it calls for, and then gives no table
---   Versions     the reader of both versions, and of one
---   Turns        an archive turned into the other version, and back
 --   CasesHold    the cases, computed
 pub mod NumberBack
 pub mod GoodLaws
@@ -20,6 +18,4 @@ pub mod Undo
 pub mod Changed
 pub mod Noticed
 pub mod Called
-pub mod Versions
-pub mod Turns
 pub mod CasesHold

@@ -1,34 +1,42 @@
--- An archive and its blocks: what is joined of them, and their bytes; and what an accepted archive is.
+-- An archive and its blocks: the parts of what was joined, what is joined of the parts; and what an accepted archive is.
 -- Assumes nothing.
-use Prim.Native.Nat.{ℕ, zero, suc, ◌+◌, ◌*◌, ◌%◌, ◌≤◌, ◌<◌}
+use Prim.Native.Nat.{ℕ, zero, suc, ◌+◌, ◌-◌, ◌*◌, ◌%◌, ◌≤◌, ◌<◌}
 use mathlib.Core.Path.{◌≡◌, sym, ap, ◌∙◌}
 use mathlib.Core.Bool.{true}
 use mathlib.Core.List.{List, ◌++◌, append_assoc, append-nil}
 use native.Mathlib.Omega.{arith}
 use native.Mathlib.Decide.{dec_lt}
 use borrow.Author.Tests.{eq-eqb}
-use lib.ListN.{length, drop, take-append-drop, drop_of_length-le, get_or-eq_default}
-use lib.Seq.{get_or-take, get_or-drop, drop-drop}
+use lib.ListN.{length, drop, length-drop, take-append-drop, drop_of_length-le, get_or-eq_default}
+use lib.Seq.{length-take-le, get_or-take, get_or-drop, drop-drop, ext_get_or}
 use Rattle.basics.specs.Over.{join_to}
 use Rattle.basics.proofs.ChoiceLaws.{within_in}
-use Rattle.basics.proofs.JoinLaws.{join-none, join_more}
+use Rattle.basics.proofs.JoinLaws.{join-none, join_more, join-at, join-even}
 use Rattle.table.specs.declared.Fault.TheVariants.{BadLength, BadBlock, Mismatch}
 use Rattle.table.specs.declared.Checked.TheVariants.{Fine}
 use Rattle.table.specs.Limits.{max_tasks}
-use Rattle.table.specs.Faults.{unless, first_fault}
+use Rattle.table.specs.Faults.{◌then◌, unless, first_fault}
 use Rattle.table.specs.Rules.{table_fault}
 use Rattle.table.proofs.FirstLaws.{then_fine, each_fine, first_fine}
 use Rattle.table.proofs.RuleLaws.{unless_fine}
-use Rattle.block.specs.declared.Takes.{Takes}
 use Rattle.block.specs.Numbers.{byte_at}
 use Rattle.block.specs.Block.{good_block}
 use Rattle.card.specs.Archive.{block_at, blocks_in, is_length, block_fault, block_fault_at, blocks_fault, table_in, archive_fault}
 use Rattle.card.proofs.ArchiveLaws.{length_whole}
 use Rattle.release.specs.Undo.{Bytes}
 use Rattle.release.specs.Refusals.{Whole, GoodBlock, InPlace, FirstGood}
-use Rattle.release.proofs.GoodLaws.{good-is, is_good, in-place-is, is-in-place}
+use Rattle.release.proofs.GoodLaws.{good-is, is_good, agrees-is, is-agreed}
 
 -- ---- the parts
+
+-- block i + 1 of blocks that were joined
+pub part_of_lem : (n i : ℕ) (f : ℕ → List ℕ) → ((k : ℕ) → k < n → length (f k) ≡ 512) → i < n → block_at (join_to n f) i ≡ f i
+part_of_lem n i f each h =
+    let l = join-even n 512 f each in
+    let w : length (drop (512 * i) (join_to n f)) ≡ 512 * n - 512 * i = length-drop (512 * i) (join_to n f) ∙ rw l in
+    let t : length (block_at (join_to n f) i) ≡ 512 = length-take-le 512 (drop (512 * i) (join_to n f)) (omega arith) in
+    ext_get_or 0 (block_at (join_to n f) i) (f i) (t ∙ sym (each i h))
+    (λ j m. get_or-take 512 (drop (512 * i) (join_to n f)) j 0 (omega arith) ∙ get_or-drop (512 * i) (join_to n f) j 0 ∙ join-at n 512 i j f 0 each h (omega arith))
 
 -- the blocks of an archive, joined, are the archive
 pub parts_joined : (a : List ℕ) (n : ℕ) → length a ≡ 512 * n → join_to n (block_at a) ≡ a
@@ -65,41 +73,41 @@ is_whole a n w =
     let q = whole_blocks w in
     rw (eq-eqb (length a % 512) 0 (omega (arith, w.long)), q, within_in 1 max_tasks n w.least w.most)
 
-module _ (w : Takes) (a : List ℕ) (i : ℕ) where
-  pub block-good : block_fault_at w a i ≡ Fine → GoodBlock w (block_at a i) × InPlace a (blocks_in a) i
+module _ (a : List ℕ) (i : ℕ) where
+  pub block-good : block_fault_at a i ≡ Fine → GoodBlock (block_at a i) × InPlace a (blocks_in a) i
   unfolding block_fault
   block-good e =
-      let p = then_fine (unless (good_block w (block_at a i)) BadBlock (i + 1)) _ e in
-      (good-is w (block_at a i) (unless_fine _ BadBlock (i + 1) p.0), in-place-is a (blocks_in a) i (unless_fine _ Mismatch (i + 1) p.1))
+      let p = then_fine (unless (good_block (block_at a i)) BadBlock (i + 1)) _ e in
+      (good-is (block_at a i) (unless_fine _ BadBlock (i + 1) p.0), agrees-is a (blocks_in a) i (unless_fine _ Mismatch (i + 1) p.1))
 
-  pub block-fine : GoodBlock w (block_at a i) → InPlace a (blocks_in a) i → block_fault_at w a i ≡ Fine
+  pub block-fine : GoodBlock (block_at a i) → InPlace a (blocks_in a) i → block_fault_at a i ≡ Fine
   unfolding block_fault
-  block-fine g p = rw (is_good w (block_at a i) g, is-in-place a (blocks_in a) i p)
+  block-fine g p = rw (is_good (block_at a i) g, is-agreed a (blocks_in a) i p)
 
 -- ---- an accepted archive
 
 -- an archive against which nothing is said
-pub record Kept (w : Takes) (a : List ℕ) : Type 0 where
+pub record Kept (a : List ℕ) : Type 0 where
   pub whole : Whole a (blocks_in a)
-  pub good : FirstGood w a (blocks_in a) (blocks_in a)
+  pub good : FirstGood a (blocks_in a) (blocks_in a)
   pub table : table_fault (table_in a) ≡ Fine
 
-pub fine_kept : (w : Takes) (a : List ℕ) → archive_fault w a ≡ Fine → Kept w a
+pub fine_kept : (a : List ℕ) → archive_fault a ≡ Fine → Kept a
 unfolding archive_fault blocks_fault
-fine_kept w a e =
+fine_kept a e =
     let p = then_fine (unless (is_length (length a)) BadLength 0) _ e in
-    let q = then_fine (first_fault (blocks_in a) (block_fault_at w a)) (table_fault (table_in a)) p.1 in
+    let q = then_fine (first_fault (blocks_in a) (block_fault_at a)) (table_fault (table_in a)) p.1 in
     record {
       whole = whole_is a (unless_fine _ BadLength 0 p.0);
-      good = λ j h. block-good w a j (each_fine (blocks_in a) (block_fault_at w a) q.0 j h);
+      good = λ j h. block-good a j (each_fine (blocks_in a) (block_fault_at a) q.0 j h);
       table = q.1;
     }
 
-pub kept_fine : (w : Takes) (a : List ℕ) → Kept w a → archive_fault w a ≡ Fine
+pub kept_fine : (a : List ℕ) → Kept a → archive_fault a ≡ Fine
 unfolding archive_fault blocks_fault
-kept_fine w a k =
+kept_fine a k =
     rw (
       is_whole a (blocks_in a) k.whole,
-      first_fine (blocks_in a) (block_fault_at w a) (λ j h. block-fine w a j (k.good j h).0 (k.good j h).1),
+      first_fine (blocks_in a) (block_fault_at a) (λ j h. block-fine a j (k.good j h).0 (k.good j h).1),
       k.table,
     )

@@ -12,7 +12,6 @@ use Rattle.basics.specs.Over.{all_to, first_to}
 use Rattle.basics.proofs.ChoiceLaws.{and_true}
 use Rattle.basics.proofs.AllLaws.{all_at, all_hold}
 use Rattle.basics.proofs.FirstIndexLaws.{first_eq}
-use Rattle.block.specs.declared.Takes.TheVariants.{Both}
 use Rattle.block.specs.Numbers.{byte_at}
 use Rattle.block.specs.Block.{good_block}
 use Rattle.card.specs.Archive.{block_at}
@@ -36,7 +35,7 @@ unfolding is_doubled
 good_same s i g = ap (λ (n : ℕ). ltb n i) (first_eq i (λ j. same_bytes (block_at s j) (block_at s i)) (λ j. good_at s j && same_bytes (block_at s j) (block_at s i)) (λ j h. go j (same_bytes (block_at s j) (block_at s i)) refl))
   where
     go : (j : ℕ) (b : Bool) → same_bytes (block_at s j) (block_at s i) ≡ b → b ≡ (good_at s j && b)
-    go j true e = rw (ap (good_block Both) (same_is (block_at s j) (block_at s i) e), g)
+    go j true e = rw (ap good_block (same_is (block_at s j) (block_at s i) e), g)
     go j false e = sym (and-false (good_at s j))
 
 -- ---- what becomes of a block, case by case

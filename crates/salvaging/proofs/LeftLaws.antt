@@ -15,7 +15,7 @@ use Rattle.basics.proofs.AllLaws.{all_at}
 use Rattle.basics.proofs.SumLaws.{sum_eq, sum_bound}
 use Rattle.basics.proofs.RowLaws.{row-length, row_at}
 use Rattle.block.specs.declared.Head.{Head}
-use Rattle.block.specs.Block.{head_in, agree}
+use Rattle.block.specs.Block.{head_in}
 use Rattle.card.specs.Archive.{block_at}
 use Rattle.salvaging.specs.Fates.{number_on}
 use Rattle.salvaging.specs.Salvage.{left_at, left_in, head_left, joins, may_join, all_join, left_with, how_many, each_once, is_complete, place_of, Placed}
@@ -48,7 +48,7 @@ module _ (s list : List ℕ) (e : is_complete s list ≡ true) where
   numbered i h = go (left_at list i) (all_at (length list) i (may_join s list first) join h)
     where
       go : (b : Bool) → pick b (joins first (head_in (block_at s i))) true ≡ true → only b 1 ≡ only (b && within 1 first.n (number_on s i)) 1
-      go true q = rw (and_true (agree first (head_in (block_at s i))) (within 1 first.n (number_on s i)) q).1
+      go true q = rw (and_true (eqb (head_in (block_at s i)).cpus first.cpus && eqb (head_in (block_at s i)).n first.n) (within 1 first.n (number_on s i)) q).1
       go false q = refl
 
   -- so there are n

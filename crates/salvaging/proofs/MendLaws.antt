@@ -1,6 +1,6 @@
 -- The blocks left in the order of their numbers: the table that they say, and the blocks put one after the other.
 -- Assumes nothing.
-use Prim.Native.Nat.{ℕ, ◌+◌, ◌*◌, ◌≤◌, ◌<◌}
+use Prim.Native.Nat.{ℕ, ◌+◌, ◌-◌, ◌*◌, ◌≤◌, ◌<◌}
 use mathlib.Core.Path.{◌≡◌, refl, sym, ap, ◌∙◌}
 use mathlib.Core.List.{List, [], ◌++◌}
 use native.Mathlib.Omega.{arith}
@@ -19,10 +19,10 @@ use Rattle.basics.proofs.FillLaws.{rest_at, back_at, Filled, filled_part, rest_l
 use Rattle.table.specs.declared.Task.{Task}
 use Rattle.table.specs.declared.Table.{Table}
 use Rattle.table.specs.Limits.{max_tasks}
-use Rattle.table.specs.Empty.{empty_task, empty_table}
+use Rattle.table.specs.Empty.{no_groups, empty_task, empty_table}
 use Rattle.block.specs.Block.{head_in, task_in}
 use Rattle.card.specs.Archive.{block_at, blocks_in, table_in}
-use Rattle.card.proofs.ArchiveLaws.{part_of_lem}
+use Rattle.release.proofs.Parts.{part_of_lem}
 use Rattle.salvaging.specs.Salvage.{place_of, Placed, in_order}
 
 -- a block that is there has its length
@@ -54,6 +54,10 @@ module _ (s list : List ℕ) (n : ℕ) (l : 512 * length list ≤ length s) (h :
 abbrev pub tasks_to : List ℕ → List ℕ → ℕ → List Task
 tasks_to s list p = row_to p (λ j. task_in (block_at s (place_of s list (j + 1)))) ++ drop p (replicate max_tasks empty_task)
 
+pub groups_start : {t : Table} → t ≡ empty_table → t.groups ≡ no_groups
+unfolding empty_table
+groups_start e = rw e
+
 pub tasks_start : (s list : List ℕ) {t : Table} → t ≡ empty_table → t.tasks ≡ tasks_to s list 0
 unfolding empty_table
 tasks_start s list e = rw e (over_none (λ j. task_in (block_at s (place_of s list (j + 1)))) (replicate max_tasks empty_task))
@@ -70,7 +74,7 @@ module _ (s list : List ℕ) (n : ℕ) (l : 512 * length list ≤ length s) (h :
       ∙ rw (order-blocks s list n l h) (row-eq max_tasks (λ i. pick (ltb i p) (task_in (block_at s (place_of s list (i + 1)))) empty_task) (λ i. pick (ltb i n) (task_in (block_at (in_order s list n) i)) empty_task)
       (λ i k. rw (d i k) (pick_when empty_task (ltb i n) (λ q. ap task_in (sym (order-at s list n l h i (ltb-true i n q)))))))
 
-  pub table_done : (p : ℕ) {t : Table} → p ≤ max_tasks → ((i : ℕ) → i < max_tasks → ltb i p ≡ ltb i n) → t.cpus ≡ (head_in (block_at (in_order s list n) 0)).cpus → t.n ≡ n → t.groups ≡ (head_in (block_at (in_order s list n) 0)).groups → t.tasks ≡ tasks_to s list p
+  pub table_done : (p : ℕ) {t : Table} → p ≤ max_tasks → ((i : ℕ) → i < max_tasks → ltb i p ≡ ltb i n) → t.cpus ≡ (head_in (block_at (in_order s list n) 0)).cpus → t.n ≡ n → t.groups ≡ no_groups → t.tasks ≡ tasks_to s list p
       → t ≡ table_in (in_order s list n)
   unfolding table_in
   table_done p m d e f z g = λ j. record { cpus = e j; n = (f ∙ sym (order-blocks s list n l h)) j; groups = z j; tasks = (g ∙ tasks-done p m d) j }

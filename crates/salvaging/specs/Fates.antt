@@ -1,8 +1,7 @@
--- Requests 5/12 and 10/12 of document 02: "it lists each input block". Block i + 1 of the input s is `block_at s i`, as in an archive.
+-- Request 5/12 of document 02: "it lists each input block". Block i + 1 of the input s is `block_at s i`, as in an archive.
 use Rattle.std.specs.Prelude.{ℕ, ◌+◌, Bool, ◌&&◌, not, List, length, ltb, eqb}
 use Rattle.basics.specs.Choice.{pick}
 use Rattle.basics.specs.Over.{all_to, first_to, row_to}
-use Rattle.block.specs.declared.Takes.TheVariants.{Both}
 use Rattle.block.specs.Numbers.{byte_at}
 use Rattle.block.specs.Block.{good_block, head_in}
 use Rattle.card.specs.Archive.{block_at, blocks_in}
@@ -16,9 +15,9 @@ code_of Doubled = 1
 code_of Kept = 2
 code_of Moved = 3
 
--- "those that 13 would not refuse"; of either version, since "The salvage tool takes both"
+-- "those that 13 would not refuse"
 abbrev pub good_at : List ℕ → ℕ → Bool
-good_at s i = good_block Both (block_at s i)
+good_at s i = good_block (block_at s i)
 
 -- the task number that a block says
 abbrev pub number_on : List ℕ → ℕ → ℕ

@@ -1,4 +1,4 @@
--- Requests 5/12 and 10/12 of document 02: the archive that is made of the blocks left, and the refusals in their order.
+-- Request 5/12 of document 02: the archive that is made of the blocks left, and the refusals in their order.
 use Rattle.std.specs.Prelude.{ℕ, ◌+◌, ◌/◌, ◌%◌, ◌<◌, Bool, true, ◌&&◌, List, length, leb, ltb, eqb}
 use Rattle.basics.specs.Choice.{pick, within}
 use Rattle.basics.specs.Over.{count_to, all_to, first_to, join_to}
@@ -11,7 +11,7 @@ use Rattle.table.specs.Rules.{table_fault}
 use Rattle.table.specs.Answers.{or_wrote, or_text}
 use Rattle.block.specs.declared.Head.{Head}
 use Rattle.block.specs.Numbers.{byte_at}
-use Rattle.block.specs.Block.{block_size, head_in, agree}
+use Rattle.block.specs.Block.{block_size, head_in}
 use Rattle.card.specs.Archive.{block_at, table_in}
 use Rattle.salvaging.specs.declared.Fate.TheVariants.{Kept}
 use Rattle.salvaging.specs.Fates.{code_of, number_on, codes_of}
@@ -37,9 +37,9 @@ first_left list = first_to (length list) (left_at list)
 abbrev pub head_left : List ℕ → List ℕ → Head
 head_left s list = head_in (block_at s (first_left list))
 
--- "agree on processors and n, and their numbers are 1 to n"; and "all left must agree in version and groups too"
+-- "agree on processors and n, and their numbers are 1 to n"
 unfoldable pub joins : Head → Head → Bool
-joins first h = agree first h && within 1 first.n h.number
+joins first h = eqb h.cpus first.cpus && eqb h.n first.n && within 1 first.n h.number
 
 -- "all left" do
 abbrev pub may_join : List ℕ → List ℕ → Head → ℕ → Bool

@@ -7,7 +7,7 @@ ghost use Rattle.salvaging.specs.Fates.{same_bytes, fate_at, code_at};
 ghost use Rattle.salvaging.specs.Salvage.{max_blocks, left_in};
 
 use crate::{Fate, left};
-use block::{SIZE, Takes};
+use block::SIZE;
 
 // Equal byte for byte.
 fn same(a: &[u8], b: &[u8]) -> bool
@@ -50,7 +50,7 @@ fn fate_of(s: &[u8], i: usize, position: u32) -> Fate
 {
     // all three before any is looked at, so that a wrong program that looks at another first keeps the shape
     let at = SIZE * i;
-    let good = block::is_good(Takes::Both, &s[at..at + SIZE]);
+    let good = block::is_good(&s[at..at + SIZE]);
     let like = first_like(s, i);
     let h = block::head_of(&s[at..at + SIZE]);
     if !good {

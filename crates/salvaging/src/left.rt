@@ -45,13 +45,19 @@ fn first_left(list: &[u8]) -> usize
 fn joins(first: Head, h: Head) -> bool
     ensures { result ≡ joins first h }
 {
-    if !block::agree(first, h) {
+    // in locals, so that a wrong program that compares others keeps the shape
+    let n = first.n;
+    let said = h.n;
+    if h.cpus != first.cpus {
+        return false;
+    }
+    if said != n {
         return false;
     }
     if h.number < 1 {
         return false;
     }
-    h.number <= first.n
+    h.number <= n
 }
 
 // Whether the block at a place does, if it is left.

@@ -6,7 +6,7 @@ ghost use Rattle.table.specs.Rules.{table_fault};
 ghost use Rattle.salvaging.specs.Salvage.{max_blocks, place_of, Placed, in_order};
 
 use crate::left;
-use block::{Head, SIZE};
+use block::SIZE;
 use table::{Checked, Table};
 
 // Where the block left with a number is; the list's length if there is none.
@@ -24,28 +24,26 @@ fn place_of(s: &[u8], list: &[u8], number: u32) -> usize
     i
 }
 
-// What the block with number 1 says besides its task; where there is none, zeros.
-fn head_one(s: &[u8], list: &[u8], n: usize) -> Head
+// The processors that the block with number 1 says.
+fn cpus_of(s: &[u8], list: &[u8], n: usize) -> u32
     requires { (length list.now ≤ max_blocks) × (block_size * length list.now ≤ length s.now) × Placed s.now list.now n }
-    ensures { result ≡ head_in (block_at (in_order s.now list.now n) 0) }
+    ensures { result ≡ (head_in (block_at (in_order s.now list.now n) 0)).cpus }
 {
     if n == 0 {
-        return block::head_of(&s[..0]);
+        return 0;
     }
-    left::head_at(s, place_of(s, list, 1))
+    let h = left::head_at(s, place_of(s, list, 1));
+    h.cpus
 }
 
-// The table of the first n: the processors and the groups that the block with number 1 says, and as many of their tasks as it holds.
+// The table of the first n, with as many of their tasks as it holds.
 fn table_of(s: &[u8], list: &[u8], n: usize) -> Table
     requires { (length list.now ≤ max_blocks) × (block_size * length list.now ≤ length s.now) × (n ≤ max_blocks) × Placed s.now list.now n }
     ensures { result ≡ table_in (in_order s.now list.now n) }
 {
-    let one = head_one(s, list, n);
     let mut t = Table::empty();
-    t.cpus = one.cpus;
+    t.cpus = cpus_of(s, list, n);
     t.n = n;
-    let groups = one.groups;
-    t.groups = groups;
     let mut p: usize = 0;
     while p < Table::MAX_TASKS {
         if p == n {

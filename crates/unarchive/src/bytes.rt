@@ -3,15 +3,14 @@ ghost use Rattle.std.specs.Prelude.{◌≡◌, ◌≤◌, length};
 ghost use Rattle.writing.specs.Longest.{max_text};
 ghost use Rattle.unarchive.specs.Unarchiving.{from_card, with_listing};
 
-use block::Takes;
 use table::{Checked, Written};
 
-// The listing of an archive's table, at the start of out. Archives of both versions are taken.
+// The listing of an archive's table, at the start of out.
 pub(crate) fn unarchive(archive: &[u8], out: &mut [u8]) -> Written
     requires { max_text ≤ length out.old }
     ensures { (result ≡ from_card archive.now) × (out.new ≡ with_listing archive.now out.old) }
 {
-    let r = card::read(Takes::Both, archive);
+    let r = card::read(archive);
     let answer = r.answer;
     if let Checked::Refused(f) = answer {
         return Written::NotWritten(f);

@@ -1,14 +1,18 @@
 // Reads an archive from standard input and writes the listing of its table; refused, nothing but the refusal, to standard error, so that no half listing can be mistaken for one.
+use block::SIZE;
 use console::Input;
 use libc::{STDERR_FILENO, STDOUT_FILENO};
 use refusal::Source;
-use table::Written;
+use table::{Table, Written};
 
 mod bytes;
 
+// The longest archive.
+const MAX_ARCHIVE: usize = Table::MAX_TASKS * SIZE;
+
 fn main() {
-    // one byte past the limit, to know that an archive is too long
-    let mut space = [0u8; card::MAX_ARCHIVE + 1];
+    // one byte past it, to know that an archive is too long
+    let mut space = [0u8; MAX_ARCHIVE + 1];
     let Input::Got(n) = console::read_input(&mut space) else {
         io::write_all(STDERR_FILENO, b"unarchive: the input could not be read\n");
         return;

@@ -1,10 +1,9 @@
-//! Cards to compare on, of each version: named ones with the answers that each gets, archives of many tables, and archives damaged in every way.
+//! Cards to compare on: named ones with the answer that each gets, archives of many tables, and archives damaged in every way.
 
-use crate::card::Version::{self, One, Two};
-use crate::card::{self, BLOCK, BOTH, CHECK_AT, CPUS_AT, GROUPS_AT, LOCK, LOCKS_AT, NUMBER_AT, N_AT, TIMES_AT};
+use crate::card::{self, BLOCK, CHECK_AT, CPUS_AT, LOCK, LOCKS_AT, NUMBER_AT, N_AT, TIMES_AT, ZEROS_AFTER};
 use crate::random::Random;
 use crate::table::{Lock, Refusal, Table, Task, LOCKS, TASKS, TIME};
-use crate::{cases, edges, generate, listing, versions};
+use crate::{cases, edges, generate, listing};
 
 const ACCEPTED: u64 = 140;
 const BEYOND: u64 = 100;
@@ -13,43 +12,25 @@ const CHANGED_AND_SEALED: u64 = 120;
 const ARRANGED: u64 = 150;
 const MIXED: u64 = 60;
 const TWICE: u64 = 100;
-/// Of the cards of version 2 to which the same was done as to those of version 1, one in so many.
-const OF_VERSION_2: usize = 3;
 
 /// A card, and what was done to it.
 pub type Card = (&'static str, Vec<u8>);
 /// The same with the refusal that it gets, if any.
-type Known = (&'static str, Vec<u8>, Option<Refusal>);
-/// The same with the refusal that it gets from each reader: of both versions, of version 1, and of version 2.
-pub type Named = (&'static str, Vec<u8>, [Option<Refusal>; 3]);
-/// What those readers take.
-pub const TAKES: [&[Version]; 3] = [&BOTH, &[One], &[Two]];
+pub type Named = (&'static str, Vec<u8>, Option<Refusal>);
 /// Bytes to set in a block, counted from 1, from a place in it on.
 type Change<'a> = (usize, usize, &'a [u8]);
 
-/// In each version the block of its one task has the check 0000: the other zero of RFC 1071's arithmetic, FFFF, stands for the same sum. In version 2 the version
-/// makes the sum 256 larger, and C makes it as much smaller.
-pub const ZERO_CHECK: [&str; 2] = ["cpus 4\ntask 100 40.053 100\n", "cpus 4\ntask 100 39.797 100\n"];
+/// The block of its one task has the check 0000: the other zero of RFC 1071's arithmetic, FFFF, stands for the same sum.
+pub const ZERO_CHECK: &str = "cpus 4\ntask 100 40.053 100\n";
 
 /// The archive of a listing.
-pub fn archive(version: Version, text: &str) -> Vec<u8> {
-    card::write(version, &listing::read(text.as_bytes()).expect("an accepted listing"))
+pub fn archive(text: &str) -> Vec<u8> {
+    card::write(&listing::read(text.as_bytes()).expect("an accepted listing"))
 }
 
-/// Case A, in version 2 with groups.
-pub fn case_a(version: Version) -> Vec<u8> {
-    archive(version, if version == One { cases::CASE_A } else { cases::CASE_A_GROUPED })
-}
-
-/// The card of one block.
-pub fn one(version: Version) -> Vec<u8> {
-    archive(version, ZERO_CHECK[version as usize - 1])
-}
-
-/// Every task and every pair in use, in version 2 every resource in a group, and no two numbers of a kind alike: what is left out or stands elsewhere shows.
-pub fn full(version: Version) -> Table {
-    let groups = if version == One { [0; LOCKS] } else { std::array::from_fn(|k| (LOCKS - k) as u32) };
-    let mut table = Table { m: 64, n: TASKS as u64, groups, ..Table::zero() };
+/// Every task and every pair in use, and no two numbers of a kind alike: what is left out or stands elsewhere shows.
+pub fn full() -> Table {
+    let mut table = Table { m: 64, n: TASKS as u64, ..Table::zero() };
     for (i, task) in (0u64..).zip(&mut table.tasks) {
         *task = Task { t: 9_000_001 + 257 * i, c: 7_000_001 + 257 * i, d: 8_000_001 + 257 * i, ..Task::default() };
         for (k, lock) in (0u64..).zip(&mut task.locks) {
@@ -94,15 +75,9 @@ pub fn blocks(card: &[u8], numbers: &[usize]) -> Vec<u8> {
 }
 
 /// The block of a task by itself whose C is raised by what its sum lacks to FFFF, and by a little more, which is what its sum is then.
-fn raised(version: Version, mut task: Task, more: u64) -> Vec<u8> {
-    let table = Table { m: 1, n: 1, ..Table::zero() };
-    task.c += card::checksum(&card::block(version, &table, 1, &task)[..CHECK_AT]) as u64 + more;
-    card::block(version, &table, 1, &task).to_vec()
-}
-
-/// The check that block `number` of a card should have.
-fn check(card: &[u8], number: usize) -> u16 {
-    card::checksum(&card[(number - 1) * BLOCK..][..CHECK_AT])
+fn raised(mut task: Task, more: u64) -> Vec<u8> {
+    task.c += card::checksum(&card::block(1, 1, 1, &task)[..CHECK_AT]) as u64 + more;
+    card::block(1, 1, 1, &task).to_vec()
 }
 
 /// The place in a block of a lock's entry, the locks counted from 1.
@@ -110,24 +85,16 @@ pub fn entry(k: usize) -> usize {
     LOCKS_AT + (k - 1) * LOCK
 }
 
-/// The cards whose answers are known, by name.
+/// The cards whose answer is known, by name.
 pub fn named() -> Vec<Named> {
-    let own = |version: Version| [lengths(version), faulty(version), misplaced(version), refused_tables(version), orders(version)].concat();
-    let of_each = BOTH.into_iter().flat_map(|version| own(version).into_iter().map(move |known| by_each_reader(version, known)));
-    of_each.chain(versions::named()).collect()
+    [lengths(), faulty(), misplaced(), refused_tables(), orders()].concat()
 }
 
-/// A card whose block 1 is of this version. The reader of the other does not take it, unless it refuses the length.
-fn by_each_reader(version: Version, (name, bytes, refusal): Known) -> Named {
-    let other = if refusal == Some((12, 0)) { refusal } else { Some((13, 1)) };
-    (name, bytes, if version == One { [refusal, refusal, other] } else { [refusal, other, refusal] })
-}
-
-fn lengths(version: Version) -> Vec<Known> {
-    let (one, a) = (one(version), case_a(version));
-    let all = card::write(version, &full(version));
-    let of_33 = Table { n: 33, ..full(version) };
-    let more: Vec<u8> = (1..=33).flat_map(|number| card::block(version, &of_33, number, &of_33.tasks[0])).collect();
+fn lengths() -> Vec<Named> {
+    let one = archive(ZERO_CHECK);
+    let a = archive(cases::CASE_A);
+    let all = card::write(&full());
+    let more: Vec<u8> = (1..=33).flat_map(|number| card::block(64, 33, number, &full().tasks[0])).collect();
     vec![
         ("case A", a.clone(), None),
         ("512 bytes, with the check 0000", one.clone(), None),
@@ -143,40 +110,36 @@ fn lengths(version: Version) -> Vec<Known> {
 }
 
 /// What 13 is for, in block 2 of case A and in blocks whose sums are special.
-fn faulty(version: Version) -> Vec<Known> {
-    let (zero, a) = (one(version), case_a(version));
+fn faulty() -> Vec<Named> {
+    let (zero, a) = (archive(ZERO_CHECK), archive(cases::CASE_A));
     // its words add up to more than 2 FFFF, so that a sum of 1 is one that carried into itself twice
-    let carried = raised(version, full(version).tasks[31], 1);
-    let [high, low] = check(&a, 2).to_be_bytes();
-    let zeros = version.zeros_at();
+    let carried = raised(full().tasks[31], 1);
     let second = Some((13, 2));
     vec![
         ("a sum that carries twice", carried.clone(), None),
         ("the second carry lost", spoiled(&carried, &[(1, CHECK_AT, &[0xff, 0xff])]), Some((13, 1))),
         ("the check FFFF in place of 0000", spoiled(&zero, &[(1, CHECK_AT, &[0xff, 0xff])]), Some((13, 1))),
         ("zeros alone, of which FFFF is the check", sealed(&[0; BLOCK], &[(1, 0, &[0])]), Some((13, 1))),
-        ("the high byte of the check", spoiled(&a, &[(2, 510, &[high - 1])]), second),
-        ("the low byte of the check", spoiled(&a, &[(2, 511, &[low - 1])]), second),
-        ("the bytes of the check exchanged", spoiled(&a, &[(2, 510, &[low, high])]), second),
-        ("the sum in place of its complement", spoiled(&a, &[(2, 510, &[!high, !low])]), second),
+        ("the high byte of the check", spoiled(&a, &[(2, 510, &[0x0e])]), second),
+        ("the low byte of the check", spoiled(&a, &[(2, 511, &[0x60])]), second),
+        ("the bytes of the check exchanged", spoiled(&a, &[(2, 510, &[0x61, 0x0f])]), second),
+        ("the sum in place of its complement", spoiled(&a, &[(2, 510, &[0xf0, 0x9e])]), second),
         ("the first byte of the mark", sealed(&a, &[(2, 0, &[0x55])]), second),
         ("the second byte of the mark", sealed(&a, &[(2, 1, &[0x43])]), second),
         ("the mark's bytes exchanged", sealed(&a, &[(2, 0, &[0x42, 0x54])]), second),
         ("version 0", sealed(&a, &[(2, 2, &[0])]), second),
-        ("version 3", sealed(&a, &[(2, 2, &[3])]), second),
-        ("version 255", sealed(&a, &[(2, 2, &[255])]), second),
+        ("version 2", sealed(&a, &[(2, 2, &[2])]), second),
         ("byte 6", sealed(&a, &[(2, 6, &[1])]), second),
         ("byte 7", sealed(&a, &[(2, 7, &[1])]), second),
-        ("the first of the zeros, byte 180 or 196", sealed(&a, &[(2, zeros, &[1])]), second),
-        ("the first of the zeros in block 1", sealed(&a, &[(1, zeros, &[16])]), Some((13, 1))),
+        ("byte 180", sealed(&a, &[(2, 180, &[1])]), second),
         ("byte 509", sealed(&a, &[(2, 509, &[1])]), second),
         ("FFFF among the zeros, which leaves the check right", spoiled(&a, &[(2, 300, &[0xff, 0xff])]), second),
     ]
 }
 
 /// What 14 is for.
-fn misplaced(version: Version) -> Vec<Known> {
-    let a = case_a(version);
+fn misplaced() -> Vec<Named> {
+    let a = archive(cases::CASE_A);
     vec![
         ("other processors in block 2", sealed(&a, &[(2, CPUS_AT, &[3])]), Some((14, 2))),
         ("other processors in block 1", sealed(&a, &[(1, CPUS_AT, &[3])]), Some((14, 2))),
@@ -197,8 +160,8 @@ fn misplaced(version: Version) -> Vec<Known> {
 }
 
 /// Blocks without a fault, and a table that has one. The largest number that a field holds is beyond every limit.
-fn refused_tables(version: Version) -> Vec<Known> {
-    let a = case_a(version);
+fn refused_tables() -> Vec<Named> {
+    let a = archive(cases::CASE_A);
     let most: [&[u8]; 2] = [&[0xff; 2], &[0xff; 4]];
     vec![
         ("0 processors", throughout(&a, CPUS_AT, 0), Some((4, 0))),
@@ -225,8 +188,8 @@ fn refused_tables(version: Version) -> Vec<Known> {
 }
 
 /// Two faults and more: which comes first.
-fn orders(version: Version) -> Vec<Known> {
-    let a = case_a(version);
+fn orders() -> Vec<Named> {
+    let a = archive(cases::CASE_A);
     let number = |block: usize| sealed(&a, &[(block, NUMBER_AT, &[9])]);
     let period: Change = (1, TIMES_AT, &[0; 4]);
     vec![
@@ -237,7 +200,7 @@ fn orders(version: Version) -> Vec<Known> {
         ("13 at block 2 after an n of block 1 that is not the number of blocks", spoiled(&a, &[(2, 6, &[1])])[..2 * BLOCK].to_vec(), Some((14, 1))),
         ("13 before 14 of one block", spoiled(&number(2), &[(2, 6, &[1])]), Some((13, 2))),
         ("13 by its check before 14 of one block", spoiled(&a, &[(2, NUMBER_AT, &[9])]), Some((13, 2))),
-        ("13 by its version before 14 of one block", sealed(&a, &[(2, NUMBER_AT, &[9]), (2, 2, &[3])]), Some((13, 2))),
+        ("13 by its version before 14 of one block", sealed(&a, &[(2, NUMBER_AT, &[9]), (2, 2, &[2])]), Some((13, 2))),
         ("13 at block 3 before 4 at task 1", spoiled(&sealed(&a, &[period]), &[(3, 6, &[1])]), Some((13, 3))),
         ("14 at block 3 before 4 at task 1", sealed(&a, &[period, (3, NUMBER_AT, &[9])]), Some((14, 3))),
         ("14 at block 2 before 4 of the processors", sealed(&a, &[(1, CPUS_AT, &[0])]), Some((14, 2))),
@@ -250,23 +213,12 @@ fn orders(version: Version) -> Vec<Known> {
 
 /// All cards, in a fixed order.
 pub fn all() -> Vec<Card> {
-    one_in(1, 1)
+    unanswered().into_iter().chain(long()).chain(generated()).collect()
 }
 
 /// Fewer of them.
 pub fn some() -> Vec<Card> {
-    one_in(4, 2)
-}
-
-/// Fewer still, for those that take one version.
-pub fn few() -> Vec<Card> {
-    one_in(20, 3)
-}
-
-/// The named and the long ones; of the others one in so many, and of those with versions and groups changed one in so many.
-fn one_in(others: usize, of_versions: usize) -> Vec<Card> {
-    let others = generated().into_iter().step_by(others);
-    unanswered().into_iter().chain(long()).chain(others).chain(versions::generated().into_iter().step_by(of_versions)).collect()
+    unanswered().into_iter().chain(long()).chain(generated().into_iter().step_by(3)).collect()
 }
 
 fn unanswered() -> Vec<Card> {
@@ -275,63 +227,45 @@ fn unanswered() -> Vec<Card> {
 
 /// The cards without a name.
 fn generated() -> Vec<Card> {
-    let [first, second] = [(One, 4), (Two, 41)].map(|(version, seed)| of_version(&mut Random::new(seed), version));
-    first.into_iter().chain(second.into_iter().step_by(OF_VERSION_2)).collect()
+    let mut r = Random::new(4);
+    let r = &mut r;
+    [accepted(r), beyond(r), headers(), bits(), zeros(), checks(r), same_sums(r), changed(r), arranged(r), mixed(r), cut(r), twice(r), noise(r)].concat()
 }
 
-type Maker = fn(&mut Random, Version) -> Vec<Card>;
-
-/// Those whose blocks were of one version before something was done to them.
-fn of_version(r: &mut Random, version: Version) -> Vec<Card> {
-    let all: [Maker; 13] = [accepted, beyond, headers, bits, zeros, checks, same_sums, changed, arranged, mixed, cut, twice, noise];
-    all.iter().flat_map(|make| make(r, version)).collect()
-}
-
-/// A table that nothing is to be said against. In version 2 two in three have groups.
-pub fn table(r: &mut Random, version: Version) -> Table {
-    let table = generate::table(r);
-    if version == One || r.one_in(3) { table } else { generate::with_groups(r, table) }
-}
-
-fn accepted(r: &mut Random, version: Version) -> Vec<Card> {
+fn accepted(r: &mut Random) -> Vec<Card> {
     let mut alphas = Random::new(29);
     let mut all = Vec::new();
     for _ in 0..ACCEPTED {
-        let table = table(r, version);
-        let card = card::write(version, &table);
-        assert_eq!(card::write(version, &generate::with_alpha(&mut alphas, table.clone())), card, "alpha is not dropped");
-        assert_eq!(card::read(&[version], &card), Ok(table), "not read as the table that it was written of");
+        let table = generate::table(r);
+        let card = card::write(&table);
+        assert_eq!(card::write(&generate::with_alpha(&mut alphas, table.clone())), card, "alpha is not dropped");
+        assert_eq!(card::read(&card), Ok(table), "not read as the table that it was written of");
         all.push(("an accepted table", card));
     }
     all
 }
 
 /// Tables that are not accepted, or only just, as far as they fit a card: what is beyond a field becomes the most that it holds.
-pub fn beyond(r: &mut Random, version: Version) -> Vec<Card> {
+pub fn beyond(r: &mut Random) -> Vec<Card> {
     let mut tables = edges::tables();
     tables.extend((0..BEYOND).map(|_| generate::raw_table(r)));
-    if version == Two {
-        tables.extend(edges::groups().into_iter().map(|(_, table, _)| table));
-        tables.extend((0..BEYOND).map(|_| generate::raw_groups(r)));
-    }
     tables.retain(|table| (1..=TASKS as u64).contains(&table.n));
     for table in &mut tables {
         table.m = table.m.min(u8::MAX as u64);
-        table.groups = table.groups.map(|group| group.min(u8::MAX as u32));
         for lock in table.tasks.iter_mut().flat_map(|task| &mut task.locks) {
             lock.n = lock.n.min(u16::MAX as u64);
         }
     }
-    tables.iter().map(|table| ("any table", card::write(version, table))).collect()
+    tables.iter().map(|table| ("any table", card::write(table))).collect()
 }
 
 /// Every byte before the times in every block of case A, with its check left and with it right again.
-fn headers(_: &mut Random, version: Version) -> Vec<Card> {
-    let a = case_a(version);
+fn headers() -> Vec<Card> {
+    let a = archive(cases::CASE_A);
     let mut all = Vec::new();
     for (number, at) in (1..=3).flat_map(|number| (0..TIMES_AT).map(move |at| (number, at))) {
         let own = a[(number - 1) * BLOCK + at];
-        let mut values = vec![0, 1, 2, own.wrapping_sub(1), own.wrapping_add(1), own ^ 0x80, 0xff];
+        let mut values = vec![0, 1, own.wrapping_sub(1), own.wrapping_add(1), own ^ 0x80, 0xff];
         values.sort();
         values.dedup();
         for value in values.into_iter().filter(|value| *value != own) {
@@ -343,39 +277,39 @@ fn headers(_: &mut Random, version: Version) -> Vec<Card> {
 }
 
 /// Every bit of the times and of a lock in use, by itself: each counts, beyond the limits too.
-fn bits(_: &mut Random, version: Version) -> Vec<Card> {
-    let a = case_a(version);
+fn bits() -> Vec<Card> {
+    let a = archive(cases::CASE_A);
     let places = (TIMES_AT..LOCKS_AT + LOCK).flat_map(|at| (0..8).map(move |bit| (at, bit)));
     places.map(|(at, bit)| ("a bit, the check right", sealed(&a, &[(3, at, &[a[2 * BLOCK + at] ^ 1 << bit])]))).collect()
 }
 
 /// Every byte that must be zero after the locks.
-fn zeros(_: &mut Random, version: Version) -> Vec<Card> {
-    let a = case_a(version);
+fn zeros() -> Vec<Card> {
+    let a = archive(cases::CASE_A);
     let value = |at: usize| [1, 0x10, 0x80, 0xff][at % 4];
-    (version.zeros_at()..CHECK_AT).map(|at| ("a byte that must be zero", sealed(&a, &[(at / 4 % 3 + 1, at, &[value(at)])]))).collect()
+    (ZEROS_AFTER..CHECK_AT).map(|at| ("a byte that must be zero", sealed(&a, &[(at / 4 % 3 + 1, at, &[value(at)])]))).collect()
 }
 
 /// The card of a table, and the number of one of its blocks.
-fn any_block(r: &mut Random, version: Version) -> (Vec<u8>, usize) {
-    let table = table(r, version);
+fn any_block(r: &mut Random) -> (Vec<u8>, usize) {
+    let table = generate::table(r);
     let number = r.within(1, table.n) as usize;
-    (card::write(version, &table), number)
+    (card::write(&table), number)
 }
 
 /// Checks a little off, and the two zeros of the sum, in a block of any place.
-fn checks(r: &mut Random, version: Version) -> Vec<Card> {
+fn checks(r: &mut Random) -> Vec<Card> {
     let mut all = Vec::new();
     for _ in 0..6 {
-        let (card, number) = any_block(r, version);
-        let own = check(&card, number);
+        let (card, number) = any_block(r);
+        let own = card::checksum(&card[(number - 1) * BLOCK..][..CHECK_AT]);
         for check in [own.wrapping_add(1), own.wrapping_sub(1), own.swap_bytes(), !own, 0, 0xffff] {
             all.push(("another check", spoiled(&card, &[(number, CHECK_AT, &check.to_be_bytes())])));
         }
     }
     // by chance only one block in 65,535 has 0000
     for _ in 0..6 {
-        let zero = raised(version, Task { t: TIME, c: 1, d: r.within(70_000, TIME), ..Task::default() }, 0);
+        let zero = raised(Task { t: TIME, c: 1, d: r.within(70_000, TIME), ..Task::default() }, 0);
         assert_eq!(zero[CHECK_AT..], [0, 0]);
         all.push(("FFFF for the check 0000", spoiled(&zero, &[(1, CHECK_AT, &[0xff, 0xff])])));
         all.push(("the check 0000", zero));
@@ -383,27 +317,28 @@ fn checks(r: &mut Random, version: Version) -> Vec<Card> {
     all
 }
 
-/// Blocks that differ and have the same sum: two words exchanged, which may be groups, or FFFF in place of zeros.
-fn same_sums(r: &mut Random, version: Version) -> Vec<Card> {
-    let zeros = version.zeros_at() as u64 / 2;
+/// Blocks that differ and have the same sum: two words exchanged, or FFFF in place of zeros.
+fn same_sums(r: &mut Random) -> Vec<Card> {
     let mut all = Vec::new();
     for _ in 0..20 {
-        let (card, number) = any_block(r, version);
-        let [one, other] = [(); 2].map(|()| 2 * r.within(2, zeros - 1) as usize);
+        let (card, number) = any_block(r);
+        let [one, other] = [(); 2].map(|()| 2 * r.within(2, ZEROS_AFTER as u64 / 2 - 1) as usize);
         let word = |at: usize| [0, 1].map(|i| card[(number - 1) * BLOCK + at + i]);
         all.push(("two words exchanged", spoiled(&card, &[(number, one, &word(other)), (number, other, &word(one))])));
-        let at = 2 * r.within(zeros, CHECK_AT as u64 / 2 - 1) as usize;
+        let at = 2 * r.within(ZEROS_AFTER as u64 / 2, CHECK_AT as u64 / 2 - 1) as usize;
         all.push(("FFFF among the zeros", spoiled(&card, &[(number, at, &[0xff, 0xff])])));
     }
     all
 }
 
 /// One byte anywhere, with its check left and with it right again. More than half of a block is zeros, hence the times and locks by themselves.
-fn changed(r: &mut Random, version: Version) -> Vec<Card> {
+fn changed(r: &mut Random) -> Vec<Card> {
     let mut all = Vec::new();
     for time in 0..CHANGED + CHANGED_AND_SEALED {
-        let (card, number) = any_block(r, version);
-        let at = if r.one_in(3) { r.within(0, BLOCK as u64 - 1) } else { r.within(TIMES_AT as u64, version.zeros_at() as u64 - 1) } as usize;
+        let table = generate::table(r);
+        let card = card::write(&table);
+        let number = r.within(1, table.n) as usize;
+        let at = if r.one_in(3) { r.within(0, BLOCK as u64 - 1) } else { r.within(TIMES_AT as u64, ZEROS_AFTER as u64 - 1) } as usize;
         let own = card[(number - 1) * BLOCK + at];
         let value = if r.one_in(2) { own ^ 1 << r.within(0, 7) } else { r.next() as u8 };
         let change = [(number, at, &[value][..])];
@@ -413,10 +348,10 @@ fn changed(r: &mut Random, version: Version) -> Vec<Card> {
 }
 
 /// Blocks left out, doubled and exchanged. Half of them get the n that their number asks for, so that the task numbers decide.
-fn arranged(r: &mut Random, version: Version) -> Vec<Card> {
+fn arranged(r: &mut Random) -> Vec<Card> {
     let mut all = Vec::new();
     for _ in 0..ARRANGED {
-        let table = table(r, version);
+        let table = generate::table(r);
         let mut numbers: Vec<usize> = (1..=table.n as usize).collect();
         let [one, other] = [(); 2].map(|()| r.within(0, table.n - 1) as usize);
         let kind = match r.within(0, 3) {
@@ -437,17 +372,17 @@ fn arranged(r: &mut Random, version: Version) -> Vec<Card> {
                 "blocks exchanged"
             }
         };
-        let card = blocks(&card::write(version, &table), &numbers);
+        let card = blocks(&card::write(&table), &numbers);
         all.push((kind, if r.one_in(2) { throughout(&card, N_AT, numbers.len() as u8) } else { card }));
     }
     all
 }
 
-/// Blocks of two tables, each at its place. With the same processors, n and groups they are an archive of a third.
-fn mixed(r: &mut Random, version: Version) -> Vec<Card> {
+/// Blocks of two tables, each at its place. With the same processors and n they are an archive of a third.
+fn mixed(r: &mut Random) -> Vec<Card> {
     let mut all = Vec::new();
     for _ in 0..MIXED {
-        let (one, mut other) = (table(r, version), table(r, version));
+        let (one, mut other) = (generate::table(r), generate::table(r));
         // the slots past a table's tasks are filled up from the other, lest they be empty
         if r.one_in(2) {
             let n = other.n as usize;
@@ -455,28 +390,24 @@ fn mixed(r: &mut Random, version: Version) -> Vec<Card> {
             other.n = one.n;
         }
         if r.one_in(2) {
-            (other.m, other.groups) = (one.m, one.groups);
+            other.m = one.m;
         }
-        all.push(("blocks of two tables", either(r, card::write(version, &one), card::write(version, &other))));
+        let (a, b) = (card::write(&one), card::write(&other));
+        let (short, long) = if a.len() < b.len() { (a, b) } else { (b, a) };
+        let mut card = long;
+        for number in 0..short.len() / BLOCK {
+            if r.one_in(2) {
+                card[number * BLOCK..][..BLOCK].copy_from_slice(&short[number * BLOCK..][..BLOCK]);
+            }
+        }
+        all.push(("blocks of two tables", card));
     }
     all
 }
 
-/// A card with some of its blocks replaced by those of another card at their places.
-pub fn either(r: &mut Random, a: Vec<u8>, b: Vec<u8>) -> Vec<u8> {
-    let (short, long) = if a.len() < b.len() { (a, b) } else { (b, a) };
-    let mut card = long;
-    for number in 0..short.len() / BLOCK {
-        if r.one_in(2) {
-            card[number * BLOCK..][..BLOCK].copy_from_slice(&short[number * BLOCK..][..BLOCK]);
-        }
-    }
-    card
-}
-
 /// Lengths about whole blocks, and others.
-fn cut(r: &mut Random, version: Version) -> Vec<Card> {
-    let all = card::write(version, &full(version));
+fn cut(r: &mut Random) -> Vec<Card> {
+    let all = card::write(&full());
     let endless = || all.iter().copied().cycle();
     let near = [1, 2, 3, 16, 31, 32, 33, 34, 39].into_iter().flat_map(|blocks| [BLOCK * blocks - 1, BLOCK * blocks, BLOCK * blocks + 1]);
     let mut cards: Vec<Card> = [1, 2, 255, 256, 510].into_iter().chain(near).map(|length| ("a length", endless().take(length).collect())).collect();
@@ -485,21 +416,19 @@ fn cut(r: &mut Random, version: Version) -> Vec<Card> {
 }
 
 /// Several blocks changed, each in its own way, so that the order of refusals decides.
-fn twice(r: &mut Random, version: Version) -> Vec<Card> {
+fn twice(r: &mut Random) -> Vec<Card> {
     let mut all = Vec::new();
     for _ in 0..TWICE {
-        let table = Table { n: r.within(2, 6), ..full(version) };
-        let mut card = card::write(version, &table);
+        let table = Table { n: r.within(2, 6), ..full() };
+        let mut card = card::write(&table);
         for _ in 0..r.within(2, 3) {
             let number = r.within(1, table.n) as usize;
             let value = [r.within(0, 9) as u8];
-            card = match r.within(0, version as u64 + 3) {
+            card = match r.within(0, 4) {
                 0 => spoiled(&card, &[(number, r.within(0, BLOCK as u64 - 1) as usize, &value)]),
                 1 => sealed(&card, &[(number, r.within(0, 7) as usize, &value)]),
                 2 => sealed(&card, &[(number, r.within(CPUS_AT as u64, NUMBER_AT as u64) as usize, &value)]),
                 3 => sealed(&card, &[(number, r.within(TIMES_AT as u64, LOCKS_AT as u64 - 1) as usize, &value)]),
-                // not in version 1, where there are zeros
-                5 => sealed(&card, &[(number, GROUPS_AT + r.within(0, LOCKS as u64 - 1) as usize, &value)]),
                 _ => sealed(&card, &[(number, entry(r.within(1, LOCKS as u64) as usize), &value)]),
             };
         }
@@ -509,7 +438,7 @@ fn twice(r: &mut Random, version: Version) -> Vec<Card> {
 }
 
 /// Bytes that were never an archive.
-fn noise(r: &mut Random, _: Version) -> Vec<Card> {
+fn noise(r: &mut Random) -> Vec<Card> {
     let mut cards: Vec<Card> = [0, 0x42, 0x54, 0xff].map(|byte| ("one byte throughout", vec![byte; 2 * BLOCK])).into();
     cards.extend((0..6).map(|_| ("any bytes", (0..BLOCK).map(|_| r.next() as u8).collect())));
     cards
@@ -517,7 +446,7 @@ fn noise(r: &mut Random, _: Version) -> Vec<Card> {
 
 /// Long cards, about the lengths at which a program's own room may end. For most of them a request of the probe has no room.
 fn long() -> Vec<Card> {
-    let all = card::write(One, &full(One));
+    let all = card::write(&full());
     [40 * BLOCK, 64 * BLOCK, 65_535, 65_536, 65_537, 131_072].map(|length| ("a long card", all.iter().copied().cycle().take(length).collect())).into()
 }
 

@@ -317,9 +317,6 @@ use 2 3 0.5 1.5
 use 4 1 0.7 0.7
 ";
 
-/// Case A with groups, for a card of version 2. Nobody uses resource 4.
-pub const CASE_A_GROUPED: &str = "cpus 2\ngroup 2 1\ngroup 2 4\ntask 10 2.5 10\nuse 1 1 0.5 0.5\ntask 20 4 15\ntask 30 6 30\nuse 1 2 0.75 1.5\n";
-
 /// Two listings whose groups make a bound larger. In the first the tasks share nothing without them. In the second task 2, which uses no lock, has to do with
 /// task 3's only by the group, which task 1 uses too.
 pub const COARSER: [&str; 2] = [
@@ -861,7 +858,7 @@ pub fn listings() -> Vec<Vec<u8>> {
     all.extend(alphas().into_iter().map(|(text, _)| text.into_bytes()));
     all.extend(waits().into_iter().map(|(text, _)| text.into_bytes()));
     let [coarser, smaller] = [COARSER, COARSER_AND_SMALLER];
-    all.extend([&[CASE_A_GROUPED, TOGETHER, MERGED, SMALLER, OVERLAPPING, OVERLAPPING_TYPED][..], &coarser, &smaller].concat().iter().map(|text| text.as_bytes().to_vec()));
+    all.extend([&[TOGETHER, MERGED, SMALLER, OVERLAPPING, OVERLAPPING_TYPED][..], &coarser, &smaller].concat().iter().map(|text| text.as_bytes().to_vec()));
     all.extend(groups().into_iter().map(|(text, _)| text.into_bytes()));
     all.extend([largest(), largest_with_alpha(), full_with_groups(), longest()].map(String::into_bytes));
     // a miss, and a bound, in the very last round that `report` allows

@@ -5,8 +5,6 @@
 //!     independent archive < LISTING         what `archive` is to write: the card, or a refusal on standard error
 //!     independent unarchive < CARD          what `unarchive` is to write: the listing, or a refusal on standard error
 //!     independent salvage < CARD            what `salvage` is to write: the archive, and on standard error the list and the refusal, if it is one
-//!     independent upgrade < CARD            what `upgrade` is to write: the card in version 2, or a refusal on standard error
-//!     independent downgrade < CARD          what `downgrade` is to write: the card in version 1, or a refusal on standard error
 //!     independent times PROGRAM COMMAND INPUT
 //!                                           the least time of PROGRAM and of COMMAND of this program on INPUT, in microseconds
 //!     independent listings FOLDER           write the benchmark's listings there
@@ -17,7 +15,7 @@
 //!                                           the same run time, an empty line, and the task whose bound falls, with both bounds
 //!     independent smaller                   the smallest listing of request 9/12 whose groups make a bound smaller, and the task, with its bounds without
 //!                                           groups and with them
-//!     independent compare REPORT BENCH PROBE ARCHIVE UNARCHIVE SALVAGE UPGRADE DOWNGRADE
+//!     independent compare REPORT BENCH PROBE ARCHIVE UNARCHIVE SALVAGE
 //!                                           run them on many listings, tables, times, counts and cards and compare; exit 1 on a difference
 //!     independent simulate REPORT           simulate many schedules of systems in which all tasks meet by what REPORT prints; exit 1 on a job that is
 //!                                           later than its bound, 2 on bad input
@@ -53,11 +51,10 @@ mod smaller;
 mod story;
 mod strides;
 mod table;
-mod versions;
 mod wait;
 mod waits;
 
-use programs::{Both, Paths, Said};
+use programs::{Both, Said};
 use report::Program;
 use std::io::{Read, Write};
 use std::process::ExitCode;
@@ -71,8 +68,6 @@ fn main() -> ExitCode {
         ["archive"] => say(programs::archive(&input())),
         ["unarchive"] => say(programs::unarchive(&input())),
         ["salvage"] => say_both(programs::salvage(&input())),
-        ["upgrade"] => say(programs::upgrade(&input())),
-        ["downgrade"] => say(programs::downgrade(&input())),
         ["times", program, command, path] => {
             measure::times(program, command, path);
             ExitCode::SUCCESS
@@ -99,7 +94,7 @@ fn main() -> ExitCode {
             print!("{}", smaller::find().text());
             ExitCode::SUCCESS
         }
-        ["compare", report, bench, probe, archive, unarchive, salvage, upgrade, downgrade] => {
+        ["compare", report, bench, probe, archive, unarchive, salvage] => {
             points::hold();
             let same = compare::reports(report, bench)
                 && probe::readings(probe)
@@ -108,9 +103,8 @@ fn main() -> ExitCode {
                 && probe::times(probe)
                 && probe::counts(probe)
                 && probe::archives(probe)
-                && probe::turns(probe)
                 && probe::salvages(probe)
-                && programs::compare(&Paths { archive, unarchive, salvage, upgrade, downgrade });
+                && programs::compare(archive, unarchive, salvage);
             if same {
                 ExitCode::SUCCESS
             } else {
@@ -120,8 +114,8 @@ fn main() -> ExitCode {
         ["simulate", ref words @ ..] => simulation::simulate(words),
         ["closeness", ref words @ ..] => simulation::closeness(words),
         _ => {
-            eprintln!("usage: independent report | bench | archive | unarchive | salvage | upgrade | downgrade | times PROGRAM COMMAND INPUT |");
-            eprintln!("       listings FOLDER | story | easier | falls | smaller | compare REPORT BENCH PROBE ARCHIVE UNARCHIVE SALVAGE UPGRADE DOWNGRADE |");
+            eprintln!("usage: independent report | bench | archive | unarchive | salvage | times PROGRAM COMMAND INPUT | listings FOLDER |");
+            eprintln!("       story | easier | falls | smaller | compare REPORT BENCH PROBE ARCHIVE UNARCHIVE SALVAGE |");
             eprintln!("       simulate REPORT | closeness REPORT SYSTEMS SEED PAGE PICTURE");
             ExitCode::FAILURE
         }

@@ -2,14 +2,10 @@
 //! a misreading.
 
 use crate::analysis::{self, allowed, demand, terms, uncapped, workload, By, Found, Terms, Verdict};
-use crate::card::Version::{One, Two};
 use crate::listing::Round::{Down, Up};
 use crate::report::{Program, BENCH, REPORT};
 use crate::table::{Lock, Refusal, Table, Task, TIME};
-use crate::{
-    cap, card, cards, cases, easier, edges, falls, groups, listing, no_easier, probe, programs, reads, report, rounds, salvage, salvages, story, versions,
-    wait, waits,
-};
+use crate::{cap, card, cards, cases, easier, edges, falls, groups, listing, no_easier, probe, programs, reads, report, rounds, salvage, salvages, story, wait, waits};
 
 /// Stops the comparison if a point fails.
 pub fn hold() {
@@ -38,7 +34,6 @@ pub fn hold() {
     waits::hold();
     grouped();
     groups::hold();
-    versions::hold();
     probe::hold();
     println!("the points of the paper and of the requests hold in this program");
 }
@@ -241,39 +236,30 @@ fn longest() {
 /// Request 2/12: the blocks of case A, and RFC 1071's own example of a sum.
 fn archived() {
     assert_eq!(card::checksum(&[0x00, 0x01, 0xf2, 0x03, 0xf4, 0xf5, 0xf6, 0xf7]), !0xddf2);
-    let case_a = cards::archive(One, cases::CASE_A);
+    let case_a = cards::archive(cases::CASE_A);
     let header = [0x54, 0x42, 0x01, 0x02, 0x03, 0x01, 0x00, 0x00];
     let times = [0x00, 0x00, 0x27, 0x10, 0x00, 0x00, 0x09, 0xc4, 0x00, 0x00, 0x27, 0x10];
     let lock = [0x00, 0x01, 0x00, 0x00, 0x01, 0xf4, 0x00, 0x00, 0x01, 0xf4];
     let first = [&header[..], &times, &lock, &[0; 480], &[0x4b, 0xed]].concat();
     assert_eq!(case_a[..512], first);
     assert_eq!([512, 1_024, 1_536].map(|end| [case_a[end - 2], case_a[end - 1]]), [[0x4b, 0xed], [0x0f, 0x61], [0x9d, 0x1b]]);
-    assert_eq!([One, Two].map(|version| cards::one(version)[510..].to_vec()), [[0, 0], [0, 0]]);
+    assert_eq!(cards::archive(cards::ZERO_CHECK)[510..], [0, 0]);
     // the sixteenth lock ends where the zeros begin
-    assert_eq!(card::write(One, &cards::full(One))[170..182], [0x03, 0xd9, 0x00, 0x01, 0x20, 0x80, 0x00, 0x02, 0x31, 0xf0, 0x00, 0x00]);
+    assert_eq!(card::write(&cards::full())[170..182], [0x03, 0xd9, 0x00, 0x01, 0x20, 0x80, 0x00, 0x02, 0x31, 0xf0, 0x00, 0x00]);
     assert_eq!(programs::archive(b"cpus 2\ntask 0 1 1\n"), Err("refused 4 line 2\n".into()));
-    assert_eq!(programs::unarchive(&cards::archive(One, cases::TRACED)), Ok(cases::CASE_A.into()));
+    assert_eq!(programs::unarchive(&cards::archive(cases::TRACED)), Ok(cases::CASE_A.into()));
     assert_eq!(programs::unarchive(&[0; 512]), Err("refused 13 place 1\n".into()));
 }
 
-/// The named cards are answered as they say. Reader and writer undo each other, and in each version no table has a second archive. Who takes both versions
-/// takes what one of the others takes.
+/// The named cards are answered as they say. Reader and writer undo each other, and no table has a second archive.
 fn answers() {
-    for (name, bytes, refusals) in cards::named() {
-        assert_eq!(cards::TAKES.map(|takes| card::read(takes, &bytes).err()), refusals, "{name}\n{}", cards::dump(&bytes));
+    for (name, bytes, refusal) in cards::named() {
+        assert_eq!(card::read(&bytes).err(), refusal, "{name}");
     }
-    for version in [One, Two] {
-        assert_eq!(card::read(&[version], &card::write(version, &cards::full(version))), Ok(cards::full(version)));
-    }
+    assert_eq!(card::read(&card::write(&cards::full())), Ok(cards::full()));
     for (name, bytes) in cards::all() {
-        let [both, one, two] = cards::TAKES.map(|takes| card::read(takes, &bytes));
-        assert!(one.is_err() || two.is_err(), "{name}");
-        assert_eq!(both.is_ok(), one.is_ok() || two.is_ok(), "{name}");
-        for (version, read) in [(One, one), (Two, two)] {
-            if let Ok(table) = read {
-                assert_eq!(card::write(version, &table), bytes, "{name}");
-                assert_eq!(both.as_ref(), Ok(&table), "{name}");
-            }
+        if let Ok(table) = card::read(&bytes) {
+            assert_eq!(card::write(&table), bytes, "{name}");
         }
     }
 }
@@ -289,12 +275,12 @@ fn shortened() {
 
 /// Request 5/12: the named cards are listed and answered as they say, and what the program writes of them.
 fn salvaged() {
-    for salvages::Named { name, card, fates, saved } in salvages::named().into_iter().chain(salvages::of_versions()) {
+    for salvages::Named { name, card, fates, saved } in salvages::named() {
         let found = salvage::salvage(&card, salvage::BLOCKS, salvage::BLOCKS * card::BLOCK);
         let letters: String = found.list.iter().filter_map(|fate| fate.to_string().chars().next()).collect();
         assert_eq!((letters, found.archive), (fates, saved), "{name}");
     }
-    let a = cards::archive(One, cases::CASE_A);
+    let a = cards::archive(cases::CASE_A);
     let back = cards::blocks(&a, &[3, 2, 1, 1]);
     let list = "1 moved\n2 kept\n3 moved\n4 doubled\n";
     assert_eq!(programs::salvage(&back), (a.clone(), list.into()));
@@ -446,12 +432,9 @@ fn alphas() {
 /// The archive has no alpha: the card is that of the table without, and what is read of it too.
 fn dropped() {
     let without = cases::without_alpha(cases::WAITING);
-    for version in [One, Two] {
-        let card = card::write(version, &table(cases::WAITING));
-        assert_eq!(card, card::write(version, &table(&without)));
-        assert_eq!(card::read(&[version], &card), Ok(table(&without)));
-    }
-    let card = card::write(One, &table(cases::WAITING));
+    let card = card::write(&table(cases::WAITING));
+    assert_eq!(card, card::write(&table(&without)));
+    assert_eq!(card::read(&card), Ok(table(&without)));
     assert_eq!(programs::archive(cases::WAITING.as_bytes()), Ok(card.clone()));
     assert_eq!(programs::unarchive(&card), Ok(without.into()));
     assert_eq!(programs::archive(b"cpus 2\ntask 10 5 10\nalpha 2\ntask 10 5 10\n"), Err("refused 17 line 0\n".into()));
@@ -495,28 +478,23 @@ fn grouped() {
     for other in ["group 16 2\n", "group 15 2\ngroup 3 16\n", "group 16 1\ngroup 3 16\n", "group 16 2\ngroup 3 15\n", ""] {
         assert_ne!(read, table(&text.replace("group 16 2\ngroup 3 16\n", other)), "{other}");
     }
-    on_a_card(text);
+    not_on_a_card(text);
     held_in_one_go();
 }
 
-/// A table with a group, be its resource used or not, is archived in version 2, and comes back. A card of version 1 has no groups: there it is refused.
-fn on_a_card(text: &str) {
+/// A card of version 1 has no groups: a table with one is refused, be its resource used or not, and what is read of a card has none.
+fn not_on_a_card(text: &str) {
+    assert_eq!(programs::archive(text.as_bytes()), Err("refused 20 line 0\n".into()));
     let of_nobody = cases::with_lines(cases::CASE_A, "group 1 9\n");
-    for text in [text, &of_nobody] {
-        let card = programs::archive(text.as_bytes()).expect("a card of version 2");
-        assert_eq!(card[card::VERSION_AT], 2);
-        assert_eq!(programs::unarchive(&card), Ok(text.into()));
-    }
+    assert_eq!(programs::archive(of_nobody.as_bytes()), Err("refused 20 line 0\n".into()));
     assert_eq!(programs::archive(b"cpus 2\ngroup 1 1\ngroup 1 1\n"), Err("refused 19 line 3\n".into()));
     assert_eq!(programs::archive(b"cpus 2\ngroup 1 1\n"), Err("refused 9 line 2\n".into()));
     let table = table(&of_nobody);
-    assert_eq!(card::archived(One, &table), Err((20, 0)));
-    let faulty = Table { m: 0, ..table.clone() };
-    assert_eq!([One, Two].map(|version| card::archived(version, &faulty)), [Err((4, 0)), Err((4, 0))]);
-    for (version, table) in [(One, table.without_groups()), (Two, table.without_groups()), (Two, table)] {
-        let written = card::archived(version, &table);
-        assert_eq!(written.as_deref().map(|bytes| card::read(&[version], bytes)), Ok(Ok(table)));
-    }
+    assert_eq!(card::archived(&table), Err((20, 0)));
+    assert_eq!(card::archived(&Table { m: 0, ..table.clone() }), Err((4, 0)));
+    let without = table.without_groups();
+    let written = card::archived(&without);
+    assert_eq!(written.as_deref().map(card::read), Ok(Ok(without)));
 }
 
 /// What a group presumes, by the bounds of the listing that breaks it in the simulation.

@@ -1,9 +1,9 @@
-//! The archive that is saved from a card with blocks spoiled, doubled or out of order. Written from requests 5/12 and 10/12.
+//! The archive that is saved from a card with blocks spoiled, doubled or out of order. Written from request 5/12.
 
 use std::collections::BTreeSet;
 use std::fmt;
 
-use crate::card::{self, BLOCK, BOTH, CPUS_AT, NUMBER_AT, N_AT, VERSION_AT};
+use crate::card::{self, BLOCK, CPUS_AT, NUMBER_AT, N_AT};
 use crate::table::{Refusal, Table};
 
 /// How many blocks a card may have here. An archive has 32 at most; the others are spoiled ones and copies.
@@ -42,7 +42,7 @@ pub fn salvage(input: &[u8], entries: usize, room: usize) -> Salvaged {
 /// The good blocks before this one are in the set, and it joins them. A set does not take a block twice, so that the blocks that are left are
 /// what it holds in the end.
 fn fate<'a>(position: u8, block: &'a [u8], good: &mut BTreeSet<&'a [u8]>) -> Fate {
-    if !card::sound(&BOTH, block) {
+    if !card::sound(block) {
         Fate::Bad
     } else if !good.insert(block) {
         Fate::Doubled
@@ -57,12 +57,12 @@ fn fate<'a>(position: u8, block: &'a [u8], good: &mut BTreeSet<&'a [u8]>) -> Fat
 /// they do not, they are no archive anyway.
 fn archive(left: &BTreeSet<&[u8]>) -> Result<Vec<u8>, Refusal> {
     let first = left.first().ok_or((14, 0))?;
-    let (version, m, n, groups) = (first[VERSION_AT], first[CPUS_AT], first[N_AT], card::groups(first));
-    let found = left.iter().map(|block| &block[VERSION_AT..=NUMBER_AT]);
-    if !found.eq((1..=n).map(|number| [version, m, n, number])) || left.iter().any(|block| card::groups(block) != groups) {
+    let (m, n) = (first[CPUS_AT], first[N_AT]);
+    let found = left.iter().map(|block| &block[CPUS_AT..=NUMBER_AT]);
+    if !found.eq((1..=n).map(|number| [m, n, number])) {
         return Err((14, 0));
     }
-    let mut table = Table { m: m.into(), n: n.into(), groups, ..Table::zero() };
+    let mut table = Table { m: m.into(), n: n.into(), ..Table::zero() };
     // a 33rd block finds no slot, and then n is refused before any task is looked at
     for (slot, block) in table.tasks.iter_mut().zip(left) {
         *slot = card::task(block);

@@ -1,18 +1,17 @@
-//! Cards to save archives from: named ones with the list and the answer that each gets; archives of each version scattered over a card, whose list and
-//! answer follow from how it was done; and cards damaged at random, with blocks of both versions among them.
+//! Cards to save archives from: named ones with the list and the answer that each gets; archives scattered over a card, whose list and answer
+//! follow from how it was done; and cards damaged at random.
 
-use crate::card::Version::{self, One, Two};
-use crate::card::{self, BLOCK, BOTH, CHECK_AT, CPUS_AT, GROUPS_AT, NUMBER_AT, N_AT, TIMES_AT, VERSION_AT};
+use crate::card::{self, BLOCK, CHECK_AT, CPUS_AT, NUMBER_AT, N_AT, TIMES_AT, ZEROS_AFTER};
 use crate::cards::{self, archive, blocks, entry, full, sealed, spoiled, throughout, Card};
 use crate::compare::Tally;
 use crate::random::Random;
 use crate::salvage::{self, Fate, Salvaged, BLOCKS};
-use crate::table::{Refusal, Table, Task, LOCKS, TASKS};
+use crate::table::{Refusal, Table, Task, TASKS};
 use crate::{cases, generate};
 
-const ACCEPTED: [u64; 2] = [100, 60];
-const LOST: [u64; 2] = [40, 20];
-const DAMAGED: u64 = 400;
+const ACCEPTED: u64 = 130;
+const LOST: u64 = 60;
+const DAMAGED: u64 = 320;
 /// Of the cards that the reader of archives is tried on, one in so many; and of those with a table that is refused or only just accepted.
 const OF_CARDS: usize = 13;
 const BEYOND: usize = 3;
@@ -48,28 +47,22 @@ fn runs(all: &[(&str, usize)]) -> String {
 }
 
 fn case_a() -> Vec<u8> {
-    cards::case_a(One)
+    archive(cases::CASE_A)
 }
 
 /// The card of one block.
 fn one() -> Vec<u8> {
-    cards::one(One)
+    archive(cards::ZERO_CHECK)
 }
 
 /// The card of 32 blocks.
 fn most() -> Vec<u8> {
-    card::write(One, &full(One))
+    card::write(&full())
 }
 
-/// Good blocks of one card of version 1 with these numbers.
+/// Good blocks of one card with these numbers. There are tasks for 32; then they begin again.
 fn good(m: u64, n: u64, numbers: impl IntoIterator<Item = u64>) -> Vec<u8> {
-    good_of(One, m, n, numbers)
-}
-
-/// The same of a version. There are tasks for 32; then they begin again.
-fn good_of(version: Version, m: u64, n: u64, numbers: impl IntoIterator<Item = u64>) -> Vec<u8> {
-    let table = Table { m, n, ..full(version) };
-    numbers.into_iter().flat_map(|number| card::block(version, &table, number, &table.tasks[number as usize % TASKS])).collect()
+    numbers.into_iter().flat_map(|number| card::block(m, n, number, &full().tasks[number as usize % TASKS])).collect()
 }
 
 /// Good archives with nothing done to them but that some are doubled; and cards of 64 blocks.
@@ -158,24 +151,19 @@ fn faults() -> Vec<Named> {
     let bad = [
         ("the first byte of the fate", sealed(&a1, &[(1, 0, &[0x55])])),
         ("the second byte of the fate", sealed(&a1, &[(1, 1, &[0x43])])),
-        ("version 0", sealed(&a1, &[(1, 2, &[0])])),
-        ("version 3", sealed(&a1, &[(1, 2, &[3])])),
-        ("version 255", sealed(&a1, &[(1, 2, &[255])])),
-        ("version 2, the check left", spoiled(&a1, &[(1, 2, &[2])])),
-        ("version 2 and byte 196", sealed(&a1, &[(1, 2, &[2]), (1, 196, &[1])])),
+        ("version 2", sealed(&a1, &[(1, 2, &[2])])),
         ("byte 6", sealed(&a1, &[(1, 6, &[1])])),
         ("byte 7", sealed(&a1, &[(1, 7, &[1])])),
         ("byte 180", sealed(&a1, &[(1, 180, &[1])])),
-        ("byte 195", sealed(&a1, &[(1, 195, &[16])])),
         ("byte 509", sealed(&a1, &[(1, 509, &[1])])),
         ("FFFF among the zeros", spoiled(&a1, &[(1, 300, &[0xff, 0xff])])),
         ("the high byte of the check", spoiled(&a1, &[(1, CHECK_AT, &check.wrapping_add(0x100).to_be_bytes())])),
         ("the low byte of the check", spoiled(&a1, &[(1, CHECK_AT, &(check ^ 1).to_be_bytes())])),
         ("a number of a task, the check left", spoiled(&a1, &[(1, TIMES_AT + 3, &[0x11])])),
-        ("other processors in a bad block", sealed(&a1, &[(1, 2, &[3]), (1, CPUS_AT, &[3])])),
-        ("another n in a bad block", sealed(&a1, &[(1, 2, &[3]), (1, N_AT, &[4])])),
-        ("another number in a bad block", sealed(&a1, &[(1, 2, &[3]), (1, NUMBER_AT, &[4])])),
-        ("T 0 in a bad block", sealed(&a1, &[(1, 2, &[3]), (1, TIMES_AT, &[0; 4])])),
+        ("other processors in a bad block", sealed(&a1, &[(1, 2, &[2]), (1, CPUS_AT, &[3])])),
+        ("another n in a bad block", sealed(&a1, &[(1, 2, &[2]), (1, N_AT, &[4])])),
+        ("another number in a bad block", sealed(&a1, &[(1, 2, &[2]), (1, NUMBER_AT, &[4])])),
+        ("T 0 in a bad block", sealed(&a1, &[(1, 2, &[2]), (1, TIMES_AT, &[0; 4])])),
     ];
     let among = |block: Vec<u8>| [block, blocks(&a, &[2, 3, 1])].concat();
     let mut all: Vec<Named> = bad.map(|(name, block)| case(name, among(block), "bkkm", Ok(a.clone()))).into();
@@ -210,11 +198,10 @@ fn of_two_cards() -> Vec<Named> {
     let a = case_a();
     let [a1, a2, a3] = [1, 2, 3].map(|number| blocks(&a, &[number]));
     let other = sealed(&a2, &[(1, TIMES_AT + 3, &[0x21])]);
-    let in_its_last_byte = sealed(&a2, &[(1, GROUPS_AT - 1, &[1])]);
+    let in_its_last_byte = sealed(&a2, &[(1, ZEROS_AFTER - 1, &[1])]);
     // the low words of T and D exchanged
     let of_one_check = spoiled(&a2, &[(1, TIMES_AT + 2, &a2[TIMES_AT + 10..][..2]), (1, TIMES_AT + 10, &a2[TIMES_AT + 2..][..2])]);
     let other_one = sealed(&one(), &[(1, TIMES_AT + 3, &[0x9f])]);
-    let other_of_two = sealed(&good(64, 2, [1]), &[(1, TIMES_AT + 3, &[0x9f])]);
     let longer = sealed(&a, &[(1, TIMES_AT + 3, &[0x11]), (2, TIMES_AT + 3, &[0x21]), (3, TIMES_AT + 3, &[0x31])]);
     let header = |name: &'static str, number: usize, at: usize, byte: u8| case(name, sealed(&a, &[(number, at, &[byte])]), "kkk", INCOMPLETE);
     vec![
@@ -225,7 +212,7 @@ fn of_two_cards() -> Vec<Named> {
         case("another block 2 twice as well", [&a[..], &other, &other].concat(), "kkkmd", INCOMPLETE),
         case("two blocks 2 and no block 3", [&a1[..], &a2, &other].concat(), "kkm", INCOMPLETE),
         case("two blocks 1 of one", [one(), other_one].concat(), "km", INCOMPLETE),
-        case("two blocks 1 of two", [good(64, 2, [1, 1, 2]), other_of_two].concat(), "kdmm", INCOMPLETE),
+        case("two blocks 1 of two", good(64, 2, [1, 1, 2]).into_iter().chain(card::block(64, 2, 1, &full().tasks[31])).collect(), "kdmm", INCOMPLETE),
         case("two cards alike but for a time in each block", [&a[..], &longer].concat(), "kkkmmm", INCOMPLETE),
         case("one card, and a whole one of one block", [&a[..], &one()].concat(), "kkkm", INCOMPLETE),
         case("one card, and its blocks with other processors", [&a[..], &throughout(&a, CPUS_AT, 3)].concat(), "kkkmmm", INCOMPLETE),
@@ -326,126 +313,33 @@ fn too_many() -> Vec<Named> {
     ]
 }
 
-/// Request 10/12: cards of version 2, and of both versions. What is left must agree in version and groups too.
-pub fn of_versions() -> Vec<Named> {
-    [of_version_2(), of_both_versions(), other_groups(), groups_above()].into_iter().flatten().collect()
-}
-
-/// Case A of version 2 without groups, and with them.
-fn of_case_a() -> [Vec<u8>; 2] {
-    [cases::CASE_A, cases::CASE_A_GROUPED].map(|text| archive(Two, text))
-}
-
-fn of_version_2() -> Vec<Named> {
-    let ([plain, grouped], most) = (of_case_a(), card::write(Two, &full(Two)));
-    let worn = |card: &[u8], at: usize| sealed(&blocks(card, &[1]), &[(1, at, &[1])]);
-    vec![
-        case("case A of version 2", plain.clone(), "kkk", Ok(plain.clone())),
-        case("case A of version 2 with groups", grouped.clone(), "kkk", Ok(grouped.clone())),
-        case("with groups, backwards and doubled", blocks(&grouped, &[3, 2, 1, 1, 3]), "mkmdd", Ok(grouped.clone())),
-        case("one block of version 2", cards::one(Two), "k", Ok(cards::one(Two))),
-        case("32 blocks of version 2 twice", most.repeat(2), &runs(&[("k", 32), ("d", 32)]), Ok(most)),
-        case("byte 196 in a copy", [worn(&grouped, 196), grouped.clone()].concat(), "bmmm", Ok(grouped.clone())),
-        case("version byte 1 in a copy, whose groups are no zeros", [worn(&grouped, VERSION_AT), grouped.clone()].concat(), "bmmm", Ok(grouped.clone())),
-        case("byte 180 of a copy of version 1, and version 1", [worn(&case_a(), GROUPS_AT), case_a()].concat(), "bmmm", Ok(case_a())),
-        case("a group, the check left", [spoiled(&grouped[..BLOCK], &[(1, GROUPS_AT, &[3])]), grouped.clone()].concat(), "bmmm", Ok(grouped.clone())),
-        case("block 3 with groups spoiled", spoiled(&grouped, &[(3, 6, &[1])]), "kkb", INCOMPLETE),
-        case("block 2 with groups left out", blocks(&grouped, &[1, 3]), "km", INCOMPLETE),
-        case("T 0 of task 2, with groups", blocks(&sealed(&grouped, &[(2, TIMES_AT, &[0; 4])]), &[3, 1, 2]), "mmm", Err((4, 2))),
-        case("33 blocks of 33 of version 2", good_of(Two, 64, 33, 1..=33), &runs(&[("k", 33)]), Err((8, 0))),
-    ]
-}
-
-/// No complete archive: what is left is of both versions.
-fn of_both_versions() -> Vec<Named> {
-    let (a, [plain, grouped]) = (case_a(), of_case_a());
-    let [first, second, third] = [1, 2, 3].map(|number| [&a, &plain, &grouped].map(|card| blocks(card, &[number])));
-    vec![
-        case("block 1 of version 2, the others of version 1", [&first[1][..], &second[0], &third[0]].concat(), "kkk", INCOMPLETE),
-        case("block 2 of version 2, the others of version 1", [&first[0][..], &second[1], &third[0]].concat(), "kkk", INCOMPLETE),
-        case("block 3 of version 2, the others of version 1", [&first[0][..], &second[0], &third[1]].concat(), "kkk", INCOMPLETE),
-        case("block 1 of version 1, the others of version 2", [&first[0][..], &second[1], &third[1]].concat(), "kkk", INCOMPLETE),
-        case("block 3 of version 1, the others of version 2", [&first[1][..], &second[1], &third[0]].concat(), "kkk", INCOMPLETE),
-        case("block 2 of version 1, the others with groups", [&first[2][..], &second[0], &third[2]].concat(), "kkk", INCOMPLETE),
-        case("version 1, and the same in version 2", [&a[..], &plain].concat(), "kkkmmm", INCOMPLETE),
-        case("version 2, and the same in version 1", [&plain[..], &a].concat(), "kkkmmm", INCOMPLETE),
-        case("version 1, and one block of version 2", [&a[..], &second[1]].concat(), "kkkm", INCOMPLETE),
-        case("version 2 with groups, and one block of version 1", [&first[0][..], &grouped].concat(), "kmmm", INCOMPLETE),
-        case("version 1, and one block of version 2 that is spoiled", [&a[..], &spoiled(&second[1], &[(1, 6, &[1])])].concat(), "kkkb", Ok(a.clone())),
-        case("one block of each version", [cards::one(One), sealed(&cards::one(One), &[(1, VERSION_AT, &[2])])].concat(), "km", INCOMPLETE),
-        case("block 2 twice, in each version, and no block 3", [&first[0][..], &second[0], &second[1]].concat(), "kkm", INCOMPLETE),
-    ]
-}
-
-/// No complete archive: what is left does not agree in groups.
-fn other_groups() -> Vec<Named> {
-    let [plain, grouped] = of_case_a();
-    let [first, second, third] = [1, 2, 3].map(|number| [&plain, &grouped].map(|card| blocks(card, &[number])));
-    let changed = |number: usize, k: usize, group: u8| sealed(&grouped, &[(number, GROUPS_AT + k - 1, &[group])]);
-    vec![
-        case("block 1 with groups, the others without", [&first[1][..], &second[0], &third[0]].concat(), "kkk", INCOMPLETE),
-        case("block 3 without groups, the others with", [&first[1][..], &second[1], &third[0]].concat(), "kkk", INCOMPLETE),
-        case("another group of the first resource in block 1", changed(1, 1, 1), "kkk", INCOMPLETE),
-        case("another group of the last resource in block 3", changed(3, 16, 16), "kkk", INCOMPLETE),
-        case("no group of resource 4 in block 2", changed(2, 4, 0), "kkk", INCOMPLETE),
-        case("two groups exchanged in block 2, with the same check", spoiled(&grouped, &[(2, GROUPS_AT, &[0, 2, 2, 0])]), "kkk", INCOMPLETE),
-        case("another block 2 as well, which differs in a group", [&grouped[..], &changed(2, 16, 1)[BLOCK..2 * BLOCK]].concat(), "kkkm", INCOMPLETE),
-        case("without groups, and the same with them", [&plain[..], &grouped].concat(), "kkkmmm", INCOMPLETE),
-        case("other groups throughout", throughout(&grouped, GROUPS_AT, 1), "kkk", Ok(throughout(&grouped, GROUPS_AT, 1))),
-    ]
-}
-
-/// A complete archive with a group above 16: the table's own 4, after 14 and 8, and before all tasks.
-fn groups_above() -> Vec<Named> {
-    let [plain, grouped] = of_case_a();
-    let last = GROUPS_AT + LOCKS - 1;
-    let four = |name: &'static str, card: Vec<u8>| case(name, blocks(&card, &[3, 1, 2]), "mmm", Err((4, 0)));
-    let above = throughout(&plain, GROUPS_AT, 17);
-    let of_33 = throughout(&good_of(Two, 64, 33, 1..=33), last, 17);
-    vec![
-        case("group 16", throughout(&plain, GROUPS_AT, 16), "kkk", Ok(throughout(&plain, GROUPS_AT, 16))),
-        four("group 17 of the first resource", above.clone()),
-        four("group 17 of the last resource", throughout(&grouped, last, 17)),
-        four("group 255 of a resource that nobody uses", throughout(&grouped, GROUPS_AT + 8, 255)),
-        four("4 of a group before 4 at task 1", sealed(&above, &[(1, TIMES_AT, &[0; 4])])),
-        four("4 of a group before 5 at task 1", sealed(&above, &[(1, TIMES_AT + 9, &[1])])),
-        case("14 before 4 of a group", blocks(&above, &[1, 2]), "kk", INCOMPLETE),
-        case("14 by its groups before 4 of a group", sealed(&plain, &[(2, GROUPS_AT, &[17])]), "kkk", INCOMPLETE),
-        case("8 before 4 of a group", of_33, &runs(&[("k", 33)]), Err((8, 0))),
-    ]
-}
-
 /// All of them, in a fixed order, the named ones first.
 pub fn all() -> Vec<Card> {
-    let named = [named(), of_versions()].into_iter().flatten();
-    named.map(|named| (named.name, named.card)).chain(generated()).chain(long()).collect()
+    named().into_iter().map(|named| (named.name, named.card)).chain(generated()).chain(long()).collect()
 }
 
 /// The cards without a name of their own.
 pub fn generated() -> Vec<Card> {
-    let of_each = BOTH.into_iter().zip([7, 43]).flat_map(|(version, seed)| {
-        let mut r = Random::new(seed);
-        let r = &mut r;
-        [accepted(r, version), lost(r, version), refused(r, version), many(r, version)].concat()
-    });
-    of_each.chain(damaged(&mut Random::new(44))).chain(as_they_are()).collect()
+    let mut r = Random::new(7);
+    let r = &mut r;
+    [accepted(r), lost(r), refused(r), many(r), damaged(r), as_they_are()].concat()
 }
 
 /// Cards of an accepted table: from each the very archive comes back.
-fn accepted(r: &mut Random, version: Version) -> Vec<Card> {
+fn accepted(r: &mut Random) -> Vec<Card> {
     let scatter = |_| {
-        let whole = card::write(version, &cards::table(r, version));
+        let whole = card::write(&generate::table(r));
         let numbers: Vec<usize> = (1..=whole.len() / BLOCK).collect();
         scattered(r, "an archive scattered", &whole, &numbers, Ok(whole.clone()))
     };
-    (0..ACCEPTED[version as usize - 1]).map(scatter).collect()
+    (0..ACCEPTED).map(scatter).collect()
 }
 
 /// The same with a block lost.
-fn lost(r: &mut Random, version: Version) -> Vec<Card> {
+fn lost(r: &mut Random) -> Vec<Card> {
     let mut all = Vec::new();
-    while (all.len() as u64) < LOST[version as usize - 1] {
-        let whole = card::write(version, &cards::table(r, version));
+    while (all.len() as u64) < LOST {
+        let whole = card::write(&generate::table(r));
         let mut numbers: Vec<usize> = (1..=whole.len() / BLOCK).collect();
         numbers.remove(r.next() as usize % numbers.len());
         if !numbers.is_empty() {
@@ -456,26 +350,23 @@ fn lost(r: &mut Random, version: Version) -> Vec<Card> {
 }
 
 /// Tables that are refused, or only just accepted: the reader of archives says of the whole card what is to be said of the scattered one.
-fn refused(r: &mut Random, version: Version) -> Vec<Card> {
+fn refused(r: &mut Random) -> Vec<Card> {
     let scatter = |(_, whole): Card| {
         let numbers: Vec<usize> = (1..=whole.len() / BLOCK).collect();
-        let saved = card::read(&BOTH, &whole).map(|_| whole.clone());
+        let saved = card::read(&whole).map(|_| whole.clone());
         scattered(r, "any table's archive scattered", &whole, &numbers, saved)
     };
-    let all = cards::beyond(&mut Random::new(8), version).into_iter();
-    // the tables about the limits come first, and are the same in both versions
-    let from = if version == One { 0 } else { cards::beyond(&mut Random::new(8), One).len() };
-    all.skip(from).step_by(BEYOND).map(scatter).collect()
+    cards::beyond(&mut Random::new(8)).into_iter().step_by(BEYOND).map(scatter).collect()
 }
 
 /// 33 to 64 tasks, which no table has.
-fn many(r: &mut Random, version: Version) -> Vec<Card> {
+fn many(r: &mut Random) -> Vec<Card> {
     let scatter = |n: u64| {
-        let whole = good_of(version, r.within(0, 255), n, 1..=n);
+        let whole = good(r.within(0, 255), n, 1..=n);
         let numbers: Vec<usize> = (1..=n as usize).collect();
         scattered(r, "more than 32 tasks scattered", &whole, &numbers, Err((8, 0)))
     };
-    (33..=64).step_by(if version == One { 1 } else { 5 }).map(scatter).collect()
+    (33..=64).map(scatter).collect()
 }
 
 /// These blocks of a whole card, in any order, with copies and bad blocks among them, up to 64. What comes back is known, and the list follows
@@ -512,13 +403,12 @@ fn disorder<T>(r: &mut Random, list: &mut [T]) {
 fn bad(r: &mut Random, card: &[u8]) -> Vec<u8> {
     let own = blocks(card, &[r.within(1, (card.len() / BLOCK) as u64) as usize]);
     let at = r.within(0, BLOCK as u64 - 1) as usize;
-    let zeros = if own[VERSION_AT] == Two as u8 { Two.zeros_at() } else { One.zeros_at() };
     match r.within(0, 6) {
         0 => vec![0; BLOCK],
         1 => (0..BLOCK).map(|_| r.next() as u8).collect(),
         2 => sealed(&own, &[(1, *r.pick(&[0, 1, 2]), &[0x77])]),
-        3 => sealed(&own, &[(1, *r.pick(&[6, 7, zeros, zeros + 1, 300, 508, 509]), &[r.within(1, 255) as u8])]),
-        4 => spoiled(&own, &[(1, 2 * r.within(zeros as u64 / 2, CHECK_AT as u64 / 2 - 1) as usize, &[0xff, 0xff])]),
+        3 => sealed(&own, &[(1, *r.pick(&[6, 7, 180, 181, 300, 508, 509]), &[r.within(1, 255) as u8])]),
+        4 => spoiled(&own, &[(1, ZEROS_AFTER + 2 * r.within(0, 164) as usize, &[0xff, 0xff])]),
         _ => spoiled(&own, &[(1, at, &[own[at] ^ 1 << r.within(0, 7)])]),
     }
 }
@@ -527,11 +417,9 @@ fn bad(r: &mut Random, card: &[u8]) -> Vec<u8> {
 fn damaged(r: &mut Random) -> Vec<Card> {
     let mut all = Vec::new();
     for _ in 0..DAMAGED {
-        let version = *r.pick(&BOTH);
-        let table = cards::table(r, version);
-        let (of_other, other) = other_table(r, version, &table);
-        let cards = [card::write(version, &table), card::write(of_other, &other)];
-        let [mut parts, others] = cards.map(|card| card.chunks_exact(BLOCK).map(<[u8]>::to_vec).collect::<Vec<_>>());
+        let table = generate::table(r);
+        let other = other_table(r, &table);
+        let [mut parts, others] = [&table, &other].map(|table| card::write(table).chunks_exact(BLOCK).map(<[u8]>::to_vec).collect::<Vec<_>>());
         for _ in 0..r.within(1, 4) {
             damage(r, &mut parts, &others);
         }
@@ -546,21 +434,15 @@ fn damaged(r: &mut Random) -> Vec<Card> {
     all
 }
 
-/// A table to mix in, and its version: the same table in the other version or with other groups; or another, half of which have as many processors and tasks,
-/// and the groups, of the one that they are mixed into.
-fn other_table(r: &mut Random, version: Version, table: &Table) -> (Version, Table) {
-    match r.within(0, 4) {
-        0 => return (version.other(), table.clone()),
-        1 => return (Two, generate::with_groups(r, table.clone())),
-        _ => (),
-    }
-    let mut other = cards::table(r, version);
+/// A table to mix in. Half of them have as many processors and tasks as the one that they are mixed into.
+fn other_table(r: &mut Random, table: &Table) -> Table {
+    let mut other = generate::table(r);
     if r.one_in(2) {
         let tasks: Vec<Task> = other.used().iter().copied().cycle().take(table.n as usize).collect();
         other.tasks[..tasks.len()].copy_from_slice(&tasks);
-        (other.m, other.n, other.groups) = (table.m, table.n, table.groups);
+        (other.m, other.n) = (table.m, table.n);
     }
-    (version, other)
+    other
 }
 
 fn damage(r: &mut Random, parts: &mut Vec<Vec<u8>>, others: &[Vec<u8>]) {
@@ -584,15 +466,13 @@ fn damage(r: &mut Random, parts: &mut Vec<Vec<u8>>, others: &[Vec<u8>]) {
     }
 }
 
-/// A good block that differs in a byte: in its version, processors, n or number, in its task, or in what stands where version 2 has the groups; or in two words
-/// exchanged, with the same check. In version 1 some are not good any more.
+/// A good block that differs in a byte: in its processors, n or number, or in its task; or in two words exchanged, with the same check.
 fn altered(r: &mut Random, block: &[u8]) -> Vec<u8> {
     if r.one_in(5) {
-        let [one, other] = [(); 2].map(|()| 2 * r.within(TIMES_AT as u64 / 2, GROUPS_AT as u64 / 2 - 1) as usize);
+        let [one, other] = [(); 2].map(|()| 2 * r.within(TIMES_AT as u64 / 2, ZEROS_AFTER as u64 / 2 - 1) as usize);
         return spoiled(block, &[(1, one, &block[other..other + 2]), (1, other, &block[one..one + 2])]);
     }
-    let (from, to) = *r.pick(&[(VERSION_AT, NUMBER_AT), (TIMES_AT, GROUPS_AT - 1), (GROUPS_AT, GROUPS_AT + LOCKS - 1)]);
-    let at = r.within(from as u64, to as u64) as usize;
+    let at = if r.one_in(2) { r.within(CPUS_AT as u64, NUMBER_AT as u64) } else { r.within(TIMES_AT as u64, ZEROS_AFTER as u64 - 1) } as usize;
     let byte = *r.pick(&[0, block[at].wrapping_sub(1), block[at].wrapping_add(1), block[at] ^ 0x80]);
     sealed(block, &[(1, at, &[byte])])
 }
@@ -620,27 +500,23 @@ pub fn outcome(card: &[u8], saved: &Saved) -> String {
 }
 
 const NOTHING: &str = "no block is left";
-const VERSIONS: &str = "versions differ";
 const PROCESSORS: &str = "processors differ";
 const N: &str = "n differs";
-const GROUPS: &str = "groups differ";
 const TWICE: &str = "a number twice";
 const MISSING: &str = "a number missing";
 const OUTSIDE: &str = "a number not of 1 to n";
 
 /// Why what is left of a card is no complete archive.
 fn reason(card: &[u8]) -> &'static str {
-    let mut left: Vec<&[u8]> = card.chunks_exact(BLOCK).filter(|block| card::sound(&BOTH, block)).collect();
+    let mut left: Vec<&[u8]> = card.chunks_exact(BLOCK).filter(|block| card::sound(block)).collect();
     left.sort();
     left.dedup();
     let Some(first) = left.first() else { return NOTHING };
     let differ = |at: usize| left.iter().any(|block| block[at] != first[at]);
     let numbers: Vec<u8> = left.iter().map(|block| block[NUMBER_AT]).collect();
     let all = [
-        (VERSIONS, differ(VERSION_AT)),
         (PROCESSORS, differ(CPUS_AT)),
         (N, differ(N_AT)),
-        (GROUPS, (GROUPS_AT..Two.zeros_at()).any(differ)),
         (TWICE, (0..numbers.len()).any(|at| numbers[..at].contains(&numbers[at]))),
         (MISSING, (1..=first[N_AT]).any(|number| !numbers.contains(&number))),
         (OUTSIDE, numbers.iter().any(|number| !(1..=first[N_AT]).contains(number))),
@@ -655,7 +531,7 @@ fn reason(card: &[u8]) -> &'static str {
 
 /// Every outcome that must come up. A wrong program may know one reason and not another, or look at the first block alone.
 pub fn wanted() -> Vec<String> {
-    let reasons = [NOTHING, VERSIONS, PROCESSORS, N, GROUPS, TWICE, MISSING, OUTSIDE].map(|reason| format!("refused 14, {reason}"));
+    let reasons = [NOTHING, PROCESSORS, N, TWICE, MISSING, OUTSIDE].map(|reason| format!("refused 14, {reason}"));
     let places = [4, 5, 7].into_iter().flat_map(|number| ["1", "2 or later"].map(|place| format!("refused {number:>2} place {place}")));
     let plain = ["wrote", "refused 15", "refused  8", "refused  4 place 0"].map(String::from);
     plain.into_iter().chain(reasons).chain(places).collect()

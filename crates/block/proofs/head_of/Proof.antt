@@ -6,9 +6,7 @@ use Rattle.block.proofs.head_of.Tie as tie
 
 returns : tie.Need-returns
 unfolding head_in
-returns c =
-    let b = c.before.before in
-    rw (b.before.before.byte.ensures.0, b.before.byte2.ensures.0, b.byte3.ensures.0, c.before.byte4.ensures.0, c.groups.ensures)
+returns c = rw (c.before.before.byte.ensures.0, c.before.byte2.ensures.0, c.byte3.ensures.0)
 
 pub head-of-spec : {M : Type 1} → statement M
-head-of-spec = tie.close (tie.spec (λ c κs. search rules) (λ c κs. search rules) (λ c κs. search rules) (λ c κs. search rules) (λ c κs. search rules) returns)
+head-of-spec = tie.close (tie.spec (λ c κs. search rules) (λ c κs. search rules) (λ c κs. search rules) returns)

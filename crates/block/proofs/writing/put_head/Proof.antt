@@ -33,10 +33,10 @@ slice-write-out-8 c = simp length-set (omega arith)
 returns : tie.Need-returns
 unfolding in_bytes head_bytes
 returns c =
-    let s = c.before.before.before.before in
+    let s = c.before.before.before in
     let f₁ = filled_byte (filled_none s.args.out.now) 84 (omega arith) in
     let f₂ = filled_byte f₁ 66 (omega arith) in
-    let f₃ = filled_byte f₂ (s.args.h.version % 256) (omega arith) in
+    let f₃ = filled_byte f₂ 1 (omega arith) in
     let f₄ = filled_byte f₃ (s.args.h.cpus % 256) (omega arith) in
     let f₅ = filled_byte f₄ (s.args.h.n % 256) (omega arith) in
     let f₆ = filled_byte f₅ (s.args.h.number % 256) (omega arith) in
@@ -48,7 +48,6 @@ put-head-spec =
     (tie.spec
     (λ c. search rules)
     slice-write-out-2
-    (λ c. search rules)
     slice-write-out-3
     (λ c. search rules)
     slice-write-out-4

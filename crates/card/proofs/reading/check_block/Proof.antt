@@ -3,12 +3,12 @@ use mathlib.Core.Path.{◌≡◌, ap, ◌∙◌}
 use borrow.Author.Rules.{rules}
 use Rattle.basics.proofs.ChoiceLaws.{stops, passes}
 use Rattle.block.specs.Block.{head_in}
-use Rattle.card.specs.Archive.{in_place, block_fault}
+use Rattle.card.specs.Archive.{agrees, block_fault}
 use Rattle.card.proofs.reading.check_block.Statement.{statement}
 use Rattle.card.proofs.reading.check_block.Tie as tie
 
-placed : (c : tie.After-in-place) → let a = c.before.before.before.before.args in c.in_place.result ≡ in_place a.first a.n a.position (head_in a.s.now)
-placed c = c.in_place.ensures ∙ ap (in_place _ _ _) c.before.head_of.ensures
+placed : (c : tie.After-agrees) → let a = c.before.before.before.before.args in c.agrees.result ≡ agrees a.first a.n a.position (head_in a.s.now)
+placed c = c.agrees.ensures ∙ ap (agrees _ _ _) c.before.head_of.ensures
 
 returns : tie.Need-returns
 unfolding block_fault

@@ -13,19 +13,18 @@ use Rattle.card.proofs.reading.check_blocks.Statement.{statement}
 use Rattle.card.proofs.reading.check_blocks.Tie as tie
 
 abbrev invariant-loop : tie.invariant-loop
-invariant-loop w a n first i₀ i = (i ≤ n) × (first_fault i (block_fault_at w a) ≡ Fine)
+invariant-loop a n first i₀ i = (i ≤ n) × (first_fault i (block_fault_at a) ≡ Fine)
 
 abbrev decreases-loop : tie.decreases-loop
-decreases-loop w a n first i₀ i = n - i
+decreases-loop a n first i₀ i = n - i
 
 -- what the call found is the fault of block i + 1
 found : (c : tie.After-check-block invariant-loop decreases-loop) → let l = c.before.before.before in
-    let s = l.before.before.before.before.args in
-    block_fault_at s.w s.a.now l.loop.i ≡ c.check-block.result
+    block_fault_at l.before.before.before.before.args.a.now l.loop.i ≡ c.check-block.result
 found c =
     let l = c.before.before.before in
     let s = l.before.before.before.before in
-    block-found s.args.a.now s.args.n s.requires.0 s.args.w l.loop.i l.before.head_of.ensures c.check-block.ensures
+    block-found s.args.a.now s.args.n s.requires.0 l.loop.i l.before.head_of.ensures c.check-block.ensures
 
 slice-aggregate-head-of : tie.Need-slice-aggregate-head-of invariant-loop decreases-loop
 slice-aggregate-head-of c = sym (length-take-le 512 c.before.before.args.a.now (omega arith))

@@ -19,7 +19,7 @@ slice-aggregate-head-of : tie.Need-slice-aggregate-head-of invariant-loop decrea
 slice-aggregate-head-of c = sym (length-take-le 512 c.before.before.args.a.now (omega arith))
 
 loop-holds : tie.Need-loop-init invariant-loop decreases-loop
-loop-holds c = (omega arith, λ l. table-start _ _ l c.before.empty.ensures c.before.before.head_of.ensures)
+loop-holds c = (omega arith, λ l. table-start _ _ l c.empty.ensures c.before.head_of.ensures)
 
 loop-again : tie.Need-loop-preserved invariant-loop decreases-loop
 loop-again c =
@@ -29,7 +29,7 @@ loop-again c =
 returns : tie.Need-returns invariant-loop decreases-loop
 returns c =
     let l = c.before in
-    let s = l.before.before.before.before.before.before in
+    let s = l.before.before.before.before.before in
     let e : l.loop.i ≡ s.args.n = omega arith in
     l.loop.invariant.1 s.requires.0 ∙ ap (tableTo _ _ s.requires.0) e ∙ table_done _ _ s.requires.0 s.requires.2
 

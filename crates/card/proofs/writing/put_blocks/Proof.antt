@@ -1,75 +1,68 @@
 -- `card::writing::put_blocks` meets its contract. The loop's invariant: the output is filled with the blocks of the tasks passed. Assumes nothing.
 use Prim.Native.Nat.{◌*◌, ◌-◌, ◌≤◌}
-use mathlib.Core.Path.{◌≡◌, ◌∙◌}
+use mathlib.Core.Path.{◌≡◌}
 use native.Mathlib.Omega.{arith}
 use borrow.Author.Rules.{rules}
 use Rattle.basics.specs.Over.{join_to}
 use Rattle.basics.proofs.JoinLaws.{join-none}
 use Rattle.basics.proofs.FillLaws.{Filled, filled_none}
 use Rattle.table.proofs.Acceptance.{fine_accepted}
-use Rattle.block.specs.declared.Version.{Version}
-use Rattle.block.specs.Block.{version_byte}
 use Rattle.card.specs.Archive.{block_for, archive_of}
 use Rattle.card.proofs.ArchiveLaws.{block_next}
 use Rattle.card.proofs.writing.put_blocks.Statement.{statement}
 use Rattle.card.proofs.writing.put_blocks.Tie as tie
 
 abbrev invariant-loop : tie.invariant-loop
-invariant-loop out₀ t n byte groups i₀ out i = (i ≤ n) × ((v : Version) → byte ≡ version_byte v → Filled out₀ out (join_to i (block_for v t)) (512 * i))
+invariant-loop out₀ t n i₀ out i = (i ≤ n) × Filled out₀ out (join_to i (block_for t)) (512 * i)
 
 abbrev decreases-loop : tie.decreases-loop
-decreases-loop out₀ t n byte groups i₀ out i = n - i
+decreases-loop out₀ t n i₀ out i = n - i
 
-few : (s : tie.Start invariant-loop decreases-loop) → s.args.t3.n ≤ 32
-few s = (fine_accepted s.args.t3 s.requires.0).tasks_most
+few : (s : tie.Start invariant-loop decreases-loop) → s.args.t2.n ≤ 32
+few s = (fine_accepted s.args.t2 s.requires.0).tasks_most
 
 loop-holds : tie.Need-loop-init invariant-loop decreases-loop
-loop-holds c = (omega arith, λ v e. rw join-none (filled_none _))
-
--- what stands in the output
-filled : (c : tie.At-loop invariant-loop decreases-loop) → let s = c.before.before.before.before in Filled s.args.out.now c.loop.out (join_to c.loop.i (block_for s.args.version s.args.t3)) (512 * c.loop.i)
-filled c = c.loop.invariant.1 c.before.before.before.before.args.version c.before.before.byte.ensures
+loop-holds c = (omega arith, rw join-none (filled_none _))
 
 mul-x : tie.Need-overflow-mul-x invariant-loop decreases-loop
-mul-x c = omega (arith, few c.before.before.before.before.before)
+mul-x c = omega (arith, few c.before.before.before)
 
 element-copy-out-x : tie.Need-element-copy-out-x invariant-loop decreases-loop
-element-copy-out-x c = omega (arith, few c.before.before.before.before.before)
+element-copy-out-x c = omega (arith, few c.before.before.before)
 
-cast-t17 : tie.Need-overflow-cast-t17 invariant-loop decreases-loop
-cast-t17 c = omega (arith, few c.before.before.before.before.before.before)
+cast-t14 : tie.Need-overflow-cast-t14 invariant-loop decreases-loop
+cast-t14 c = omega (arith, few c.before.before.before.before)
 
-add-t12 : tie.Need-overflow-add-t12 invariant-loop decreases-loop
-add-t12 c = omega (arith, few c.before.before.before.before.before.before)
+add-t9 : tie.Need-overflow-add-t9 invariant-loop decreases-loop
+add-t9 c = omega (arith, few c.before.before.before.before)
 
-cast-t18 : tie.Need-overflow-cast-t18 invariant-loop decreases-loop
-cast-t18 c = omega (arith, few c.before.before.before.before.before.before)
+cast-t15 : tie.Need-overflow-cast-t15 invariant-loop decreases-loop
+cast-t15 c = omega (arith, few c.before.before.before.before)
 
 mul-put-block : tie.Need-overflow-mul-put-block invariant-loop decreases-loop
-mul-put-block c = omega (arith, few c.before.before.before.before.before.before)
+mul-put-block c = omega (arith, few c.before.before.before.before)
 
 sub-put-block : tie.Need-overflow-sub-put-block invariant-loop decreases-loop
-sub-put-block c = omega (arith, (filled c.before.before).kept)
+sub-put-block c = omega (arith, c.before.before.loop.invariant.1.kept)
 
 part-put-block-start : tie.Need-slice-bounds-put-block-start invariant-loop decreases-loop
-part-put-block-start c = omega (arith, (filled c.before.before).kept)
+part-put-block-start c = omega (arith, c.before.before.loop.invariant.1.kept)
 
 loop-again : tie.Need-loop-preserved invariant-loop decreases-loop
 loop-again c =
     let p = c.before.before in
     let l = p.before.before.before.before in
-    let s = l.before.before.before.before in
-    (omega arith, λ v e. block_next v s.args.t3 l.loop.i (l.loop.invariant.1 v e) (omega arith) p.put-block.auto.0 (p.put-block.ensures.1 ∙ rw e))
+    (omega arith, block_next l.before.before.args.t2 l.loop.i l.loop.invariant.1 (omega arith) p.put-block.auto.0 p.put-block.ensures.1)
 
 same_length : tie.Need-same-length invariant-loop decreases-loop
-same_length c = (filled c.before).kept
+same_length c = c.before.loop.invariant.1.kept
 
 returns : tie.Need-returns invariant-loop decreases-loop
 unfolding archive_of
 returns c =
     let l = c.before in
-    let e : l.loop.i ≡ l.before.before.before.before.args.t3.n = omega arith in
-    (rw e at (filled l)).holds
+    let e : l.loop.i ≡ l.before.before.args.t2.n = omega arith in
+    (rw e at l.loop.invariant.1).holds
 
 pub put-blocks-spec : {M : Type 1} → statement M
 put-blocks-spec =
@@ -77,13 +70,12 @@ put-blocks-spec =
     (tie.spec
     invariant-loop
     decreases-loop
-    (λ c κs. search rules)
     loop-holds
     mul-x
     element-copy-out-x
-    cast-t17
-    add-t12
-    cast-t18
+    cast-t14
+    add-t9
+    cast-t15
     mul-put-block
     sub-put-block
     part-put-block-start
