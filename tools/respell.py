@@ -1,11 +1,13 @@
 #!/usr/bin/env python3
 """Brings the repository's own definitions and lemmas to today's spelling, after port.py: words in snake case, types in camel case.
 
-usage: python3 tools/respell.py [ROOT]     rewrites the files below ROOT (this repository, if it is left out)
-       python3 tools/respell.py --list     prints the names, old and new, and changes nothing
+usage: python3 tools/respell.py [ROOT]             rewrites the files below ROOT (this repository, if it is left out)
+       python3 tools/respell.py --inner [ROOT]     the second half alone: the names that stand within a module or a lemma
+       python3 tools/respell.py --list [ROOT]      prints the names of the first half, old and new, and changes nothing
 
-The names are those that specs/*.antt and proofs/*.antt of a crate declare: definitions, lemmas, fields and constructors. A letter of the paper
-stays as the paper writes it (C, D, T, CT, ..). Functions of src/, strings, inputs and outputs keep their names. It is run once.
+The names are those that specs/*.antt and proofs/*.antt of a crate declare: definitions, lemmas, fields and constructors, first those at the
+margin, then those within. A letter of the paper stays as the paper writes it (C, D, T, CT, ..). Functions of src/, strings, inputs and
+outputs keep their names. It is run once.
 """
 import collections
 import os
@@ -89,13 +91,42 @@ def names(root):
     return out
 
 
+def inner_names(root):
+    """The names that are declared within a module or a lemma; one that would be a definition's gets `_lem`."""
+    outer, found = {n.replace("◌", "") for n in declared(root)}, set()
+    for p in files(root, ".antt"):
+        if os.path.basename(os.path.dirname(p)) in ("specs", "proofs"):
+            with open(p, encoding="utf-8") as f:
+                for l in f:
+                    l = re.sub(r"(^|\s)--(\s.*)?$", "", l.rstrip("\n"))
+                    m = re.match(r"^\s+(?:(?:abbrev|opaque|unfoldable|pub)\s+)*(%s)\s*:(\s|$)" % TOKEN, l)
+                    if m and m[1][0].islower() and re.search(r"[\w']-[\w']|[a-z][A-Z]", m[1]):
+                        found.add(m[1])
+                    elif m and re.match(r"(CT|DB|[A-Z])-[a-z]", m[1]):
+                        found.add(m[1])
+    spelled = collections.Counter(snake(n) for n in found)
+    out = {}
+    for n in found:
+        new = snake(n)
+        taken = new in outer or n in ("sameOf", "isRead") or (spelled[new] > 1 and "-" in n)
+        out[n] = new + ("_lem" if "-" in n else "_test") if taken else new
+    return {k: v for k, v in out.items() if k != v}
+
+
 def main(argv):
     root = next((a for a in argv if not a.startswith("-")), os.path.dirname(os.path.dirname(os.path.abspath(__file__))))
-    new = names(root)
+    if "--inner" not in argv:
+        turn_all(root, names(root), argv)
+    if "--list" not in argv:
+        turn_all(root, inner_names(root), argv)
+    return 0
+
+
+def turn_all(root, new, argv):
     if "--list" in argv:
         for k, v in sorted(new.items()):
             print(k, v)
-        return 0
+        return
     antt = re.compile(r"(?P<dot>\.?)(?P<name>%s)" % TOKEN)
     fields = {n.replace("◌", "") for n, k in declared(root).items() if "field" in k}
     functions = set()
@@ -154,7 +185,6 @@ def main(argv):
         if out != old:
             with open(p, "w", encoding="utf-8") as f:
                 f.write(out)
-    return 0
 
 
 if __name__ == "__main__":

@@ -19,7 +19,7 @@ use Rattle.theory.specs.Groups.{InBounds}
 use Rattle.theory.specs.Tables.{view_of, counted_by, counted_in}
 use Rattle.theory.proofs.LeastLaws.{Rises}
 use Rattle.theory.proofs.AllowanceLaws.{stays}
-use Rattle.theory.proofs.EndLaws.{counts-exists, Right, counted-right}
+use Rattle.theory.proofs.EndLaws.{counts_exists, Right, counted_right}
 use Rattle.theory.proofs.DemandLaws.{Runs, NoMore, demand_start, demand_rises}
 use Rattle.analysis.specs.declared.Answer.TheVariants.{Known}
 use Rattle.analysis.specs.Answers.{bound_fault, or_answer, bound_of}
@@ -37,20 +37,20 @@ module _ (W : Load) (rising : NoMore W W) (t : Table) (i : ℕ) (a : InBounds t)
   up : Rises f
   up = demand_rises W rising (view_of t) (bounds_runs t a) (level i)
 
-  pub rounds-end : (n : ℕ) × Counts f ((view_of t).D (level i)) ((view_of t).C (level i)) n × (n ≤ (view_of t).D (level i) - (view_of t).C (level i) + 1)
-  rounds-end =
+  pub rounds_end : (n : ℕ) × Counts f ((view_of t).D (level i)) ((view_of t).C (level i)) n × (n ≤ (view_of t).D (level i) - (view_of t).C (level i) + 1)
+  rounds_end =
       let g = (a.task i h).times in
-      counts-exists f _ up ((view_of t).C (level i)) (omega arith) (demand_start W (view_of t) (level i) _)
+      counts_exists f _ up ((view_of t).C (level i)) (omega arith) (demand_start W (view_of t) (level i) _)
 
-  pub rounds-right : (allowance : ℕ) → Right f ((view_of t).D (level i)) (counted_from f ((view_of t).D (level i)) allowance ((view_of t).C (level i))).verdict
-  rounds-right allowance =
+  pub rounds_right : (allowance : ℕ) → Right f ((view_of t).D (level i)) (counted_from f ((view_of t).D (level i)) allowance ((view_of t).C (level i))).verdict
+  rounds_right allowance =
       let g = (a.task i h).times in
-      counted-right f _ up allowance _ (omega arith) (omega arith) (demand_start W (view_of t) (level i))
+      counted_right f _ up allowance _ (omega arith) (omega arith) (demand_start W (view_of t) (level i))
 
   -- the bound, or the miss, by computing k rounds
-  pub by-rounds : (k : ℕ) {v : Verdict} → counted_from f ((view_of t).D (level i)) k ((view_of t).C (level i)) ≡ record { verdict = v; rounds = k }
+  pub by_rounds : (k : ℕ) {v : Verdict} → counted_from f ((view_of t).D (level i)) k ((view_of t).C (level i)) ≡ record { verdict = v; rounds = k }
       → Right f ((view_of t).D (level i)) v
-  by-rounds k c = rw c at (rounds-right k)
+  by_rounds k c = rw c at (rounds_right k)
 
 -- a verdict that is not open, from a small allowance to a larger one
 pub under_more : (t : Table) (i A B : ℕ) {r : Counted} → A ≤ B → counted_in t A (level i) ≡ r → (r.verdict ≡ Open → ⊥) → counted_in t B (level i) ≡ r

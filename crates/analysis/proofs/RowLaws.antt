@@ -3,12 +3,12 @@
 --     fits                      where nothing is said against the table and the row, the table is fine and has no more tasks than the row has records
 --     allowed                   and a round at least is allowed
 --     count_room, -most       at most as many records are written as the row has room for, and at most 32
---     count-asks              where a record is written, the table is fine and the record is one of its tasks'
---     count-fine              where nothing is said against the table and the row, the records of all tasks are written
---     row_fine, row-refused     the row then; and where anything is said, it is as it was
---     row-record                the record of each task that is written
---     row-past, row-long        past them the row is as it was, and it is as long as it was
---     asks_read, record-read    of the table that is read, where the one that was given is fine: it is in bounds and has that task, and the task's record is the given one's
+--     count_asks              where a record is written, the table is fine and the record is one of its tasks'
+--     count_fine              where nothing is said against the table and the row, the records of all tasks are written
+--     row_fine, row_refused     the row then; and where anything is said, it is as it was
+--     row_record                the record of each task that is written
+--     row_past, row_long        past them the row is as it was, and it is as long as it was
+--     asks_read, record_read    of the table that is read, where the one that was given is fine: it is in bounds and has that task, and the task's record is the given one's
 -- Assumes nothing.
 use mathlib.Core.Path.{◌≡◌, refl, ◌∙◌, ap}
 use Prim.Native.Nat.{ℕ, ◌≤◌, ◌<◌, zero-le}
@@ -20,7 +20,7 @@ use lib.ListN.{length, get_or, drop, get_or-append}
 use lib.Seq.{drop_at}
 use Rattle.basics.specs.Over.{join_to, row_to}
 use Rattle.basics.proofs.ChoiceLaws.{within_true}
-use Rattle.basics.proofs.RowLaws.{row-length, row_at, over-length}
+use Rattle.basics.proofs.RowLaws.{row_length, row_at, over_length}
 use Rattle.table.specs.declared.Level.{Level}
 use Rattle.table.specs.declared.Table.{Table}
 use Rattle.table.specs.declared.Refusal.{Refusal}
@@ -34,7 +34,7 @@ use Rattle.table.proofs.RuleLaws.{unless_fine}
 use Rattle.table.proofs.Acceptance.{fine_accepted}
 use Rattle.theory.specs.Groups.{InBounds}
 use Rattle.theory.specs.Tables.{view_of}
-use Rattle.merging.proofs.ReadLaws.{read-merged, read-asks}
+use Rattle.merging.proofs.ReadLaws.{read_merged, read_asks}
 use Rattle.analysis.specs.declared.Record.{Record}
 use Rattle.analysis.specs.Answers.{allowance_fault, bound_fault, analysis_fault, or_none, record_count, record_by, record_of, table_read, analysed}
 
@@ -68,13 +68,13 @@ module _ (t : Table) (allowance room : ℕ) where
   room_by Fine e = (fits e).1
   room_by (Refused r) e = zero-le
 
-  most-by : (a : Checked) → analysis_fault t allowance room ≡ a → or_none a t.n ≤ max_tasks
-  most-by Fine e = (fine_accepted t (fits e).0).tasks_most
-  most-by (Refused r) e = zero-le
+  most_by : (a : Checked) → analysis_fault t allowance room ≡ a → or_none a t.n ≤ max_tasks
+  most_by Fine e = (fine_accepted t (fits e).0).tasks_most
+  most_by (Refused r) e = zero-le
 
-  asks-by : (i : ℕ) (a : Checked) → analysis_fault t allowance room ≡ a → i < or_none a t.n → (table_fault t ≡ Fine) × (i < t.n)
-  asks-by i Fine e l = ((fits e).0, l)
-  asks-by i (Refused r) e l = absurd (not-suc-le-zero l)
+  asks_by : (i : ℕ) (a : Checked) → analysis_fault t allowance room ≡ a → i < or_none a t.n → (table_fault t ≡ Fine) × (i < t.n)
+  asks_by i Fine e l = ((fits e).0, l)
+  asks_by i (Refused r) e l = absurd (not-suc-le-zero l)
 
   pub count_room : record_count t allowance room ≤ room
   unfolding record_count
@@ -82,15 +82,15 @@ module _ (t : Table) (allowance room : ℕ) where
 
   pub count_most : record_count t allowance room ≤ max_tasks
   unfolding record_count
-  count_most = most-by (analysis_fault t allowance room) refl
+  count_most = most_by (analysis_fault t allowance room) refl
 
-  pub count-asks : (i : ℕ) → i < record_count t allowance room → (table_fault t ≡ Fine) × (i < t.n)
+  pub count_asks : (i : ℕ) → i < record_count t allowance room → (table_fault t ≡ Fine) × (i < t.n)
   unfolding record_count
-  count-asks i l = asks-by i (analysis_fault t allowance room) refl l
+  count_asks i l = asks_by i (analysis_fault t allowance room) refl l
 
-  pub count-fine : analysis_fault t allowance room ≡ Fine → record_count t allowance room ≡ t.n
+  pub count_fine : analysis_fault t allowance room ≡ Fine → record_count t allowance room ≡ t.n
   unfolding record_count
-  count-fine e = rw e
+  count_fine e = rw e
 
 -- ---- the row that the analysis leaves
 
@@ -99,35 +99,35 @@ module _ (t : Table) (allowance : ℕ) (ys : List Record) where
   unfolding analysed record_count
   row_fine e = rw e
 
-  pub row-refused : {r : Refusal} → analysis_fault t allowance (length ys) ≡ Refused r → ys ≡ analysed t allowance ys
+  pub row_refused : {r : Refusal} → analysis_fault t allowance (length ys) ≡ Refused r → ys ≡ analysed t allowance ys
   unfolding analysed record_count join_to
-  row-refused e = rw e
+  row_refused e = rw e
 
 module _ (t : Table) (allowance : ℕ) (ys : List Record) where
-  pub row-record : (i : ℕ) (d : Record) → i < record_count t allowance (length ys) → get_or (analysed t allowance ys) i d ≡ record_of t allowance i
+  pub row_record : (i : ℕ) (d : Record) → i < record_count t allowance (length ys) → get_or (analysed t allowance ys) i d ≡ record_of t allowance i
   unfolding analysed
-  row-record i d h =
+  row_record i d h =
       let w = record_count t allowance (length ys) in
-      get_or-append (row_to w (record_of t allowance)) (drop w ys) d i (omega (arith, row-length w (record_of t allowance))) ∙ row_at w i (record_of t allowance) d h
+      get_or-append (row_to w (record_of t allowance)) (drop w ys) d i (omega (arith, row_length w (record_of t allowance))) ∙ row_at w i (record_of t allowance) d h
 
   -- as the row is stored
   pub row_last : row_to (record_count t allowance (length ys)) (record_of t allowance) ++ drop (record_count t allowance (length ys)) ys ≡ analysed t allowance ys
   unfolding analysed
   row_last = refl
 
-  pub row-past : drop (record_count t allowance (length ys)) (analysed t allowance ys) ≡ drop (record_count t allowance (length ys)) ys
+  pub row_past : drop (record_count t allowance (length ys)) (analysed t allowance ys) ≡ drop (record_count t allowance (length ys)) ys
   unfolding analysed
-  row-past = drop_at (row_to (record_count t allowance (length ys)) (record_of t allowance)) _ _ (row-length _ (record_of t allowance))
+  row_past = drop_at (row_to (record_count t allowance (length ys)) (record_of t allowance)) _ _ (row_length _ (record_of t allowance))
 
-  pub row-long : length (analysed t allowance ys) ≡ length ys
+  pub row_long : length (analysed t allowance ys) ≡ length ys
   unfolding analysed
-  row-long = over-length (record_of t allowance) _ ys (count_room t allowance (length ys))
+  row_long = over_length (record_of t allowance) _ ys (count_room t allowance (length ys))
 
 -- ---- the table that is read
 
 module _ (t : Table) {m : Table} (i : ℕ) (read : m ≡ table_read t) where
   pub asks_read : (table_fault t ≡ Fine) × (i < t.n) → InBounds m × (i < m.n)
-  asks_read a = rw read (read-asks t refl a.0 a.1)
+  asks_read a = rw read (read_asks t refl a.0 a.1)
 
-  pub record-read : (allowance : ℕ) → table_fault t ≡ Fine → record_by (view_of m) allowance i ≡ record_of t allowance i
-  record-read allowance e = ap (λ (x : Table). record_by (view_of x) allowance i) (read ∙ read-merged t refl e)
+  pub record_read : (allowance : ℕ) → table_fault t ≡ Fine → record_by (view_of m) allowance i ≡ record_of t allowance i
+  record_read allowance e = ap (λ (x : Table). record_by (view_of x) allowance i) (read ∙ read_merged t refl e)

@@ -1,4 +1,6 @@
 // The analysis of a table: the bound of one task, and the row of verdicts, each with its rounds.
+#![tactic(auto)]
+
 ghost use Rattle.std.specs.Prelude.{◌≡◌, ◌<◌};
 ghost use Rattle.table.specs.Faults.{◌then◌, at};
 ghost use Rattle.table.specs.Limits.{max_tasks};
@@ -13,14 +15,14 @@ use table::{Checked, Fault, Level, Refusal, Table};
 use theory::{Counted, Verdict};
 
 // The verdict on a task that was asked about and its rounds, or why there is none.
-#[derive(Drop)]
+#[derive(Clone, Copy)]
 pub enum Answer {
     Known(Counted),
     Unknown(Refusal),
 }
 
 // A task's number, its verdict, and how many rounds that took.
-#[derive(Drop)]
+#[derive(Clone, Copy)]
 pub struct Record {
     pub task: Level,
     pub verdict: Verdict,
@@ -28,7 +30,7 @@ pub struct Record {
 }
 
 // What `analyse_all` answers: the refusal, if there is one, and the row.
-#[derive(Drop)]
+#[derive(Clone, Copy)]
 pub struct Analysis {
     pub answer: Checked,
     pub rows: [Record; Table::MAX_TASKS],

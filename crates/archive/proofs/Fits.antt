@@ -25,16 +25,16 @@ last Fine = refl
 last (Refused r) = refl
 
 module _ (s : List ℕ) (e : (read_listing s).answer ≡ Fine) where
-  table-fine : table_fault (read_listing s).table ≡ Fine
-  table-fine = passes_check s (read_listing s).table (λ i. record { answer = e i; table = (read_listing s).table })
+  table_fine : table_fault (read_listing s).table ≡ Fine
+  table_fine = passes_check s (read_listing s).table (λ i. record { answer = e i; table = (read_listing s).table })
 
   archive_most : block_size * (read_listing s).table.n ≤ max_archive
-  archive_most = omega (arith, (fine_accepted (read_listing s).table table-fine).tasks_most)
+  archive_most = omega (arith, (fine_accepted (read_listing s).table table_fine).tasks_most)
 
   -- what is said against writing it: only 20, which comes before 11
-  pub archive-room : (room : ℕ) → max_archive ≤ room → archiving_fault (read_listing s).table room ≡ from_listing_fault s
+  pub archive_room : (room : ℕ) → max_archive ≤ room → archiving_fault (read_listing s).table room ≡ from_listing_fault s
   unfolding archiving_fault from_listing_fault
-  archive-room room h = rw (table-fine, e, le-leb (block_size * (read_listing s).table.n) room (omega (arith, archive_most))) (last _)
+  archive_room room h = rw (table_fine, e, le-leb (block_size * (read_listing s).table.n) room (omega (arith, archive_most))) (last _)
 
 -- and what is written is within the output
 pub archive_fits : (s : List ℕ) (k : ℕ) → from_listing s ≡ Wrote k → k ≤ max_archive

@@ -1,4 +1,6 @@
 // Reads a listing from standard input and writes the archive of its table; refused, nothing but the refusal, to standard error, so that no half archive can be mistaken for one.
+#![tactic(auto)]
+
 use block::SIZE;
 use console::Input;
 use libc::{STDERR_FILENO, STDOUT_FILENO};

@@ -69,8 +69,8 @@ all_missed (suc n) p e = go (p n) refl (λ f. all_missed n p f)
 pub all_zero : (n : ℕ) (f : ℕ → ℕ) → eqb (sum_to n f) 0 ≡ all_to n (λ k. eqb (f k) 0)
 unfolding all_to sum_to
 all_zero zero f = refl
-all_zero (suc n) f = plus-zero (sum_to n f) (f n) ∙ ap (λ (b : Bool). b && eqb (f n) 0) (all_zero n f)
+all_zero (suc n) f = plus_zero (sum_to n f) (f n) ∙ ap (λ (b : Bool). b && eqb (f n) 0) (all_zero n f)
   where
-    plus-zero : (x y : ℕ) → eqb (x + y) 0 ≡ (eqb x 0 && eqb y 0)
-    plus-zero zero y = rw zero-add
-    plus-zero (suc x) y = rw (ne_eqb (suc x + y) 0 (λ e. omega arith), ne_eqb (suc x) 0 (λ e. omega arith))
+    plus_zero : (x y : ℕ) → eqb (x + y) 0 ≡ (eqb x 0 && eqb y 0)
+    plus_zero zero y = rw zero-add
+    plus_zero (suc x) y = rw (ne_eqb (suc x + y) 0 (λ e. omega arith), ne_eqb (suc x) 0 (λ e. omega arith))

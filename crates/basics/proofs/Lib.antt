@@ -6,9 +6,9 @@
 --   FirstIndexLaws   first_none, first-more, First, first_is, first-by, first_here, first_eq
 --   CountLaws        count_on, count_off, count-none, count_some, count_one, count_found, count-most, count_but, count_missed, sum-ones, sum_swap, count_number, count_alone
 --   OnceLaws         both, and-both, pick-is, is_pick, some_count, first-below; Once, first_once, count_once, once_count
---   JoinLaws         join-none, join-more, join-length, join-room, join-eq, join-bound, join-even, join-at, join-from, join-through;
---                    join-whole, join-past, join-rest
---   RowLaws          row-length, row-at, row-is, row-eq; over-length, over-none, over-more, over-same; back-none, back-more, back-all
+--   JoinLaws         join_none, join-more, join_length, join_room, join_eq, join_bound, join_even, join_at, join_from, join_through;
+--                    join_whole, join_past, join_rest
+--   RowLaws          row_length, row-at, row-is, row_eq; over_length, over-none, over_more, over_same; back-none, back-more, back_all
 --   FallingLaws      at_most_more, insert_descends, falling_descends, take_descends, insert_front, insert_take, insert_length, falling_length
 --   LargestLaws      largest_agrees, largest_more, largest_all
 --   FillLaws         restAt, back_at, whole-part, rest_length, back_plain, back_length; Filled, filled-none, filled_bytes, filled_part, filled_byte,

@@ -1,4 +1,6 @@
 // One block of an archive: 512 bytes that hold one task of a table, with a check of their own. A block is written and read here; which blocks make an archive is for `card`.
+#![tactic(auto)]
+
 ghost use Rattle.std.specs.Prelude.{◌≡◌, length, leb};
 ghost use Rattle.basics.specs.Text.{put_into};
 ghost use Rattle.block.specs.Block.{block_size, block_of, head_in, task_in, good_block};
@@ -12,7 +14,7 @@ mod writing;
 pub const SIZE: usize = 512;
 
 // What a block says besides its task.
-#[derive(Drop)]
+#[derive(Clone, Copy)]
 pub struct Head {
     pub cpus: u32, // m
     pub n: u32,

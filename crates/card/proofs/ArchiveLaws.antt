@@ -11,8 +11,8 @@ use mathlib.Core.Bool.{true}
 use Rattle.basics.specs.Choice.{within}
 use Rattle.basics.specs.Over.{join_to, row_to}
 use Rattle.basics.specs.Text.{put_into}
-use Rattle.basics.proofs.RowLaws.{over_none, over-more, over-same}
-use Rattle.basics.proofs.JoinLaws.{join_more, join-even}
+use Rattle.basics.proofs.RowLaws.{over_none, over_more, over_same}
+use Rattle.basics.proofs.JoinLaws.{join_more, join_even}
 use Rattle.basics.proofs.ChoiceLaws.{and_true, within_true}
 use Rattle.basics.proofs.FillLaws.{rest_at, back_at, Filled, filled_part, rest_length}
 use Rattle.table.specs.declared.Task.{Task}
@@ -32,18 +32,18 @@ part_is : (a : List ℕ) (i : ℕ) → take (512 * i + 512 - 512 * i) (drop (512
 part_is a i = let e : 512 * i + 512 - 512 * i ≡ 512 = omega arith in rw e
 
 module _ (a : List ℕ) (n : ℕ) (l : length a ≡ 512 * n) where
-  pub blocks-are : blocks_in a ≡ n
-  blocks-are = omega arith
+  pub blocks_are : blocks_in a ≡ n
+  blocks_are = omega arith
 
   -- what is found of it is what the definition says of block i + 1
-  pub block-found : (i : ℕ) {first : Head} {c : Checked} → first ≡ head_in (take 512 a)
+  pub block_found : (i : ℕ) {first : Head} {c : Checked} → first ≡ head_in (take 512 a)
       → c ≡ block_fault first n (i + 1) (take (512 * i + 512 - 512 * i) (drop (512 * i) a)) → block_fault_at a i ≡ c
-  block-found i e f = rw blocks-are (sym (f ∙ rw (e, part_is a i)))
+  block_found i e f = rw blocks_are (sym (f ∙ rw (e, part_is a i)))
 
   -- ---- the table, filled with the tasks of the first i blocks
 
-  abbrev pub tableTo : ℕ → Table
-  tableTo i =
+  abbrev pub table_to : ℕ → Table
+  table_to i =
       record {
         cpus = (head_in (block_at a 0)).cpus;
         n = n;
@@ -51,18 +51,18 @@ module _ (a : List ℕ) (n : ℕ) (l : length a ≡ 512 * n) where
         tasks = row_to i (λ j. task_in (block_at a j)) ++ drop i (replicate max_tasks empty_task);
       }
 
-  pub table-start : {t : Table} {h : Head} → t ≡ empty_table → h ≡ head_in (take 512 a) → record { cpus = h.cpus; n = n; groups = t.groups; tasks = t.tasks } ≡ tableTo 0
+  pub table_start : {t : Table} {h : Head} → t ≡ empty_table → h ≡ head_in (take 512 a) → record { cpus = h.cpus; n = n; groups = t.groups; tasks = t.tasks } ≡ table_to 0
   unfolding empty_table
-  table-start e f = rw (e, f, ← over_none (λ j. task_in (block_at a j)) (replicate max_tasks empty_task))
+  table_start e f = rw (e, f, ← over_none (λ j. task_in (block_at a j)) (replicate max_tasks empty_task))
 
-  pub table_more : (i : ℕ) {t : Table} {x : Task} → i < max_tasks → t ≡ tableTo i → x ≡ task_in (take (512 * i + 512 - 512 * i) (drop (512 * i) a))
-      → record { cpus = t.cpus; n = t.n; groups = t.groups; tasks = set t.tasks i x } ≡ tableTo (i + 1)
+  pub table_more : (i : ℕ) {t : Table} {x : Task} → i < max_tasks → t ≡ table_to i → x ≡ task_in (take (512 * i + 512 - 512 * i) (drop (512 * i) a))
+      → record { cpus = t.cpus; n = t.n; groups = t.groups; tasks = set t.tasks i x } ≡ table_to (i + 1)
   table_more i h e f =
-      rw (e, f, part_is a i, over-more (λ j. task_in (block_at a j)) i (replicate max_tasks empty_task) (omega (arith, length-replicate max_tasks empty_task)))
+      rw (e, f, part_is a i, over_more (λ j. task_in (block_at a j)) i (replicate max_tasks empty_task) (omega (arith, length-replicate max_tasks empty_task)))
 
-  pub table_done : n ≤ max_tasks → tableTo n ≡ table_in a
+  pub table_done : n ≤ max_tasks → table_to n ≡ table_in a
   unfolding table_in
-  table_done h = rw (blocks-are, over-same (λ j. task_in (block_at a j)) empty_task n max_tasks h)
+  table_done h = rw (blocks_are, over_same (λ j. task_in (block_at a j)) empty_task n max_tasks h)
 
 -- ---- the blocks of a table, put one after the other
 
@@ -78,7 +78,7 @@ module _ (t : Table) (i : ℕ) {o o₁ : List ℕ} (q : Filled o o₁ (join_to i
 
 pub archive_length : (t : Table) → length (archive_of t) ≡ block_size * t.n
 unfolding archive_of
-archive_length t = join-even t.n 512 (block_for t) (λ i h. block_length (head_for t i) (task_at t i))
+archive_length t = join_even t.n 512 (block_for t) (λ i h. block_length (head_for t i) (task_at t i))
 
 -- ---- a length of whole blocks
 

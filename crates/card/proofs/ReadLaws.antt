@@ -10,7 +10,7 @@ use lib.ListN.{length, get_or, get_or-replicate, get_or-eq_default}
 use lib.Dec.{ltb}
 use Rattle.basics.specs.Choice.{pick}
 use Rattle.basics.specs.Over.{row_to}
-use Rattle.basics.proofs.RowLaws.{row-length, row_at}
+use Rattle.basics.proofs.RowLaws.{row_length, row_at}
 use Rattle.table.specs.declared.Fault.TheVariants.{BadLength}
 use Rattle.table.specs.declared.Checked.{Checked}
 use Rattle.table.specs.declared.Checked.TheVariants.{Fine, Refused}
@@ -64,7 +64,7 @@ card_none a i h = go (dec_lt i max_tasks)
 
     go : Dec (i < max_tasks) → (get_or (row_to max_tasks tasks) i no_task).alpha ≡ 0
     go (yes d) = ap (λ (x : Task). x.alpha) (row_at max_tasks i tasks no_task d) ∙ task_none (ltb i (blocks_in a)) (block_at a i)
-    go (no d) = ap (λ (x : Task). x.alpha) (get_or-eq_default (row_to max_tasks tasks) no_task (omega (arith, row-length max_tasks tasks)))
+    go (no d) = ap (λ (x : Task). x.alpha) (get_or-eq_default (row_to max_tasks tasks) no_task (omega (arith, row_length max_tasks tasks)))
 
 -- the table's own refusals come last, so there are none
 pub accepted_passes : (a : List ℕ) (t : Table) → read_archive a ≡ accepted t → table_fault t ≡ Fine

@@ -1,4 +1,6 @@
 // A table to an archive, and an archive to a table: blocks 1 to n, one a task. A block itself is written and read in `block`.
+#![tactic(auto)]
+
 ghost use Rattle.std.specs.Prelude.{◌≡◌, length};
 ghost use Rattle.card.specs.Archive.{archiving_answer, archiving, read_archive};
 

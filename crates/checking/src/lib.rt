@@ -1,4 +1,6 @@
 // The check of a table that is handed over directly.
+#![tactic(auto)]
+
 ghost use Rattle.std.specs.Prelude.{◌≡◌, ◌≤◌, ltb};
 ghost use Rattle.basics.specs.Choice.{only};
 ghost use Rattle.table.specs.Limits.{max_tasks};

@@ -1,4 +1,6 @@
 // The check of RFC 1071.
+#![tactic(auto)]
+
 ghost use Rattle.std.specs.Prelude.{◌≡◌, ◌+◌, ◌*◌, ◌≤◌};
 ghost use Rattle.checksum.specs.Sum.{ones_plus, check_of};
 

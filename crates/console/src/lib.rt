@@ -1,4 +1,6 @@
 // What the programs for people do at their standard streams.
+#![tactic(auto)]
+
 ghost use Rattle.std.specs.Prelude.{◌≡◌, ℕ, ◌≤◌, length};
 ghost use Rattle.console.specs.declared.Input.TheVariants.{Got};
 
@@ -7,7 +9,7 @@ use refusal::Source;
 use table::Refusal;
 
 // What standard input held: so many bytes; or a read failed, which is not the end of the input.
-#[derive(Drop)]
+#[derive(Clone, Copy)]
 pub enum Input {
     Got(usize),
     Failed,

@@ -20,22 +20,22 @@ use Rattle.field.specs.Runs.{run_of}
 -- ---- the digits from a place on
 
 module _ (s : List ℕ) (n : ℕ) where
-  pub digits-none : length s ≤ n → digits (drop n s) ≡ []
-  digits-none h = rw (drop_of_length-le s h)
+  pub digits_none : length s ≤ n → digits (drop n s) ≡ []
+  digits_none h = rw (drop_of_length-le s h)
 
   pub digits_low : n < length s → get_or s n 0 < 48 → digits (drop n s) ≡ []
   digits_low h l = rw (drop-cons s n 0 h, lt-leb 48 (get_or s n 0) l)
 
-  pub digits-high : n < length s → 48 ≤ get_or s n 0 → 57 < get_or s n 0 → digits (drop n s) ≡ []
-  digits-high h l k = rw (drop-cons s n 0 h, le-leb 48 (get_or s n 0) l, lt-leb (get_or s n 0) 57 k)
+  pub digits_high : n < length s → 48 ≤ get_or s n 0 → 57 < get_or s n 0 → digits (drop n s) ≡ []
+  digits_high h l k = rw (drop-cons s n 0 h, le-leb 48 (get_or s n 0) l, lt-leb (get_or s n 0) 57 k)
 
   pub digits_more : n < length s → 48 ≤ get_or s n 0 → get_or s n 0 ≤ 57 → digits (drop n s) ≡ get_or s n 0 ∷ digits (drop (n + 1) s)
   digits_more h l k = rw (drop-cons s n 0 h, le-leb 48 (get_or s n 0) l, le-leb (get_or s n 0) 57 k, add-one)
 
   -- the digits end at n: what was counted is all
-  pub run-of : (most v : ℕ) → n ≤ most → n + length (digits (drop n s)) ≡ length (digits s) → number v (digits (drop n s)) ≡ number 0 (digits s) → digits (drop n s) ≡ [] → Of n v ≡ run_of most s
+  pub run_of_lem : (most v : ℕ) → n ≤ most → n + length (digits (drop n s)) ≡ length (digits s) → number v (digits (drop n s)) ≡ number 0 (digits s) → digits (drop n s) ≡ [] → Of n v ≡ run_of most s
   unfolding run_of
-  run-of most v h l e z =
+  run_of_lem most v h l e z =
       let l₁ : n ≡ length (digits s) = omega (arith, ap length z) in
       let e₁ : v ≡ number 0 (digits s) = ap (number v) (sym z) ∙ e in
       rw (← l₁, ← e₁, le-leb n most h)

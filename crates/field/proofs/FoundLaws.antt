@@ -27,59 +27,59 @@ module _ (s : List ℕ) (n v : ℕ) (e : Of n v ≡ run_of 4 s) where
   unfolding count_field
   count_none h = let r = run_is 4 s n v e in rw (within_low 1 4 (length (digits s)) (omega arith))
 
-  pub count-open : ends (drop n s) ≡ false → Bad ≡ count_field s
+  pub count_open : ends (drop n s) ≡ false → Bad ≡ count_field s
   unfolding count_field
-  count-open h = let r = run_is 4 s n v e in rw (← r.0, h, and-false)
+  count_open h = let r = run_is 4 s n v e in rw (← r.0, h, and-false)
 
-  pub count-ok : (n ≡ 0 → ⊥) → ends (drop n s) ≡ true → Value v n ≡ count_field s
+  pub count_ok : (n ≡ 0 → ⊥) → ends (drop n s) ≡ true → Value v n ≡ count_field s
   unfolding count_field
-  count-ok l h = let r = run_is 4 s n v e in rw (← r.0, ← r.1, within_in 1 4 n (omega arith) (omega arith), h)
+  count_ok l h = let r = run_is 4 s n v e in rw (← r.0, ← r.1, within_in 1 4 n (omega arith) (omega arith), h)
 
 -- ---- a fraction
 
 module _ (way : Rounding) (v at : ℕ) (s : List ℕ) where
-  pub fraction-long : Long ≡ run_of 6 s → Bad ≡ fraction way v at s
+  pub fraction_long : Long ≡ run_of 6 s → Bad ≡ fraction way v at s
   unfolding fraction
-  fraction-long e = let h = run_is_long 6 s e in rw (within_high 1 6 (length (digits s)) (omega arith))
+  fraction_long e = let h = run_is_long 6 s e in rw (within_high 1 6 (length (digits s)) (omega arith))
 
   module _ (n x : ℕ) (e : Of n x ≡ run_of 6 s) where
-    pub fraction-none : n ≡ 0 → Bad ≡ fraction way v at s
+    pub fraction_none : n ≡ 0 → Bad ≡ fraction way v at s
     unfolding fraction
-    fraction-none h = let r = run_is 6 s n x e in rw (within_low 1 6 (length (digits s)) (omega arith))
+    fraction_none h = let r = run_is 6 s n x e in rw (within_low 1 6 (length (digits s)) (omega arith))
 
-    pub fraction-open : ends (drop n s) ≡ false → Bad ≡ fraction way v at s
+    pub fraction_open : ends (drop n s) ≡ false → Bad ≡ fraction way v at s
     unfolding fraction
-    fraction-open h = let r = run_is 6 s n x e in rw (← r.0, h, and-false)
+    fraction_open h = let r = run_is 6 s n x e in rw (← r.0, h, and-false)
 
-    pub fraction-ok : (ns us : ℕ) → ns ≡ x * 10 ^ (6 - n) → us ≡ rounded way ns → (n ≡ 0 → ⊥) → ends (drop n s) ≡ true
+    pub fraction_ok : (ns us : ℕ) → ns ≡ x * 10 ^ (6 - n) → us ≡ rounded way ns → (n ≡ 0 → ⊥) → ends (drop n s) ≡ true
         → Value (v * 1000 + us) (at + n) ≡ fraction way v at s
     unfolding fraction
-    fraction-ok ns us z w l h =
+    fraction_ok ns us z w l h =
         let r = run_is 6 s n x e in
         rw (padded_number v (digits s) (omega arith), ← r.0, ← r.1, ← z, rounded_past way v ns, w, within_in 1 6 n (omega arith) (omega arith), h)
 
 -- ---- a time
 
 module _ (way : Rounding) (s : List ℕ) where
-  pub time-long : Long ≡ run_of 5 s → Bad ≡ time_field way s
+  pub time_long : Long ≡ run_of 5 s → Bad ≡ time_field way s
   unfolding time_field
-  time-long e = let h = run_is_long 5 s e in rw (within_high 1 5 (length (digits s)) (omega arith))
+  time_long e = let h = run_is_long 5 s e in rw (within_high 1 5 (length (digits s)) (omega arith))
 
   module _ (n v : ℕ) (e : Of n v ≡ run_of 5 s) where
-    pub time-none : n ≡ 0 → Bad ≡ time_field way s
+    pub time_none : n ≡ 0 → Bad ≡ time_field way s
     unfolding time_field
-    time-none h = let r = run_is 5 s n v e in rw (within_low 1 5 (length (digits s)) (omega arith))
+    time_none h = let r = run_is 5 s n v e in rw (within_low 1 5 (length (digits s)) (omega arith))
 
-    pub time-whole : (n ≡ 0 → ⊥) → ends (drop n s) ≡ true → Value (v * 1000) n ≡ time_field way s
+    pub time_whole : (n ≡ 0 → ⊥) → ends (drop n s) ≡ true → Value (v * 1000) n ≡ time_field way s
     unfolding time_field
-    time-whole l h =
+    time_whole l h =
         let r = run_is 5 s n v e in
         rw (whole_nanos (number 0 (digits s)), rounded_whole way (number 0 (digits s) * 1000), ← r.0, ← r.1, within_in 1 5 n (omega arith) (omega arith), h)
 
-    pub time-other : ends (drop n s) ≡ false → point (drop n s) ≡ false → Bad ≡ time_field way s
+    pub time_other : ends (drop n s) ≡ false → point (drop n s) ≡ false → Bad ≡ time_field way s
     unfolding time_field
-    time-other h p = let r = run_is 5 s n v e in rw (← r.0, h, p) (pick_same (within 1 5 n))
+    time_other h p = let r = run_is 5 s n v e in rw (← r.0, h, p) (pick_same (within 1 5 n))
 
-    pub time-fraction : (n ≡ 0 → ⊥) → ends (drop n s) ≡ false → point (drop n s) ≡ true → fraction way v (n + 1) (drop (n + 1) s) ≡ time_field way s
+    pub time_fraction : (n ≡ 0 → ⊥) → ends (drop n s) ≡ false → point (drop n s) ≡ true → fraction way v (n + 1) (drop (n + 1) s) ≡ time_field way s
     unfolding time_field
-    time-fraction l h p = let r = run_is 5 s n v e in rw (← r.0, ← r.1, within_in 1 5 n (omega arith) (omega arith), h, p)
+    time_fraction l h p = let r = run_is 5 s n v e in rw (← r.0, ← r.1, within_in 1 5 n (omega arith) (omega arith), h, p)

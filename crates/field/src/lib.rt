@@ -1,24 +1,26 @@
 // The number fields of a listing: read at the start of a part of the line that runs on past them.
+#![tactic(auto)]
+
 ghost use Rattle.std.specs.Prelude.{◌≡◌, drop, ◌-◌, ◌*◌, ◌^◌, ◌≤◌, ◌<◌};
 ghost use Rattle.field.specs.Number.{ends, point, rounded, fraction, time_field, count_field};
 ghost use Rattle.field.specs.Runs.{run_of};
 
 // A field's value and its width in bytes, or that it is badly formed.
-#[derive(Drop)]
+#[derive(Clone, Copy)]
 pub enum Field {
     Value(u32, usize),
     Bad,
 }
 
 // Which way a time is rounded to the microsecond.
-#[derive(Drop)]
+#[derive(Clone, Copy)]
 pub enum Rounding {
     Down,
     Up,
 }
 
 // A run of at most so many digits: how many, and their number; or that there are more.
-#[derive(Drop)]
+#[derive(Clone, Copy)]
 enum Run {
     Of(usize, u32),
     Long,

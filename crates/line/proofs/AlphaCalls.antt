@@ -22,8 +22,8 @@ use Rattle.field.specs.Number.{first, count_field}
 use Rattle.line.specs.declared.Past.{Past}
 use Rattle.line.specs.Line.{formed, value}
 use Rattle.line.specs.Refusals.{AlphaLineCalls}
-use Rattle.line.proofs.StatedLaws.{formed_states, count-in, count-stated}
-use Rattle.line.proofs.FieldCalls.{count-formed}
+use Rattle.line.proofs.StatedLaws.{formed_states, count_in_lem, count_stated}
+use Rattle.line.proofs.FieldCalls.{count_formed}
 
 module _ (past : Past) (n : ℕ) {w : List ℕ} (a : first w ≡ w) where
   abbrev A : Field
@@ -32,21 +32,21 @@ module _ (past : Past) (n : ℕ) {w : List ℕ} (a : first w ≡ w) where
   abbrev least : ℕ → Checked
   least x = unless (leb 1 x) OutOfRange n
 
-  abbrev pub alphaCheck : Checked
-  alphaCheck = unless (formed A) BadField n then least (value A) then alpha_fault n past.alpha (value A)
+  abbrev pub alpha_check : Checked
+  alpha_check = unless (formed A) BadField n then least (value A) then alpha_fault n past.alpha (value A)
 
   abbrev AlphaCalls : ℕ → ℕ → Type 0
   AlphaCalls k p = AlphaLineCalls past w k × (n ≡ p)
 
-  pub alpha-calls : (k p : ℕ) → Refuses alphaCheck k p → AlphaCalls k p
+  pub alpha_calls : (k p : ℕ) → Refuses alpha_check k p → AlphaCalls k p
   unfolding alpha_fault
-  alpha-calls k p =
+  alpha_calls k p =
       let most = unless (leb (value A) max_alpha) OutOfRange n in
       let follows = unless (may_follow past.alpha (value A)) AlphaRises n in
       from_two (unless (formed A) BadField n) (least (value A) then most then follows) k p
-      (from_rule AlphaCalls (formed A) BadField n k p (λ e. (AlphaLineCalls.bad_field (λ M s. fails _ (count-formed n a).1 e (M, s)), refl)))
+      (from_rule AlphaCalls (formed A) BadField n k p (λ e. (AlphaLineCalls.bad_field (λ M s. fails _ (count_formed n a).1 e (M, s)), refl)))
       (λ f.
-      let s = count-in a (formed_states A (unless_fine _ BadField n f)) in
+      let s = count_in_lem a (formed_states A (unless_fine _ BadField n f)) in
       from_two (least (value A)) (most then follows) k p
       (from_rule AlphaCalls (leb 1 (value A)) OutOfRange n k p (λ e. (AlphaLineCalls.out_of_range s (λ r. let l = leb-false 1 (value A) e in omega (arith, r.0)), refl)))
       (λ l. from_two most follows k p
@@ -57,18 +57,18 @@ module _ (past : Past) (n : ℕ) {w : List ℕ} (a : first w ≡ w) where
       let some = eqb-false past.alpha 0 z.0 in
       (AlphaLineCalls.alpha_rises s (leb-true _ _ (unless_fine _ OutOfRange n l), leb-true _ _ (unless_fine _ OutOfRange n m)) (omega arith) (leb-false _ _ z.1), refl)))))
 
-  out-given : (x : ℕ) → (InRange 1 max_alpha x → ⊥) → Refuses (least x then alpha_fault n past.alpha x) 4 n
+  out_given : (x : ℕ) → (InRange 1 max_alpha x → ⊥) → Refuses (least x then alpha_fault n past.alpha x) 4 n
   unfolding alpha_fault
-  out-given x h = go (dec_lt x 1)
+  out_given x h = go (dec_lt x 1)
     where
       go : Dec (x < 1) → Refuses (least x then (unless (leb x max_alpha) OutOfRange n then unless (may_follow past.alpha x) AlphaRises n)) 4 n
       go (yes l) = by_first (least x) _ 4 n (is_rule _ OutOfRange n (lt-leb 1 x l))
       go (no l) = rw (le-leb 1 x (omega arith)) (by_first _ _ 4 n (is_rule _ OutOfRange n (failing _ (leb-true x max_alpha) (λ m. h (omega arith, m)))))
 
-  pub alpha-given : {k : ℕ} → AlphaLineCalls past w k → Refuses alphaCheck k n
+  pub alpha_given : {k : ℕ} → AlphaLineCalls past w k → Refuses alpha_check k n
   unfolding alpha_fault
-  alpha-given (AlphaLineCalls.bad_field h) = by_first _ _ 3 n (is_rule (formed A) BadField n (failing _ (count-formed n a).0 (λ s. h s.0 s.1)))
-  alpha-given (AlphaLineCalls.out_of_range {A = x} s h) = rw (count-stated s).is (out-given x h)
-  alpha-given (AlphaLineCalls.alpha_rises {A = x} s r l h) =
+  alpha_given (AlphaLineCalls.bad_field h) = by_first _ _ 3 n (is_rule (formed A) BadField n (failing _ (count_formed n a).0 (λ s. h s.0 s.1)))
+  alpha_given (AlphaLineCalls.out_of_range {A = x} s h) = rw (count_stated s).is (out_given x h)
+  alpha_given (AlphaLineCalls.alpha_rises {A = x} s r l h) =
       let e : may_follow past.alpha x ≡ false = rw (ne_eqb past.alpha 0 (λ z. omega arith), lt-leb x past.alpha h) in
-      rw ((count-stated s).is, le-leb 1 x r.0, le-leb x max_alpha r.1) (is_rule _ AlphaRises n e)
+      rw ((count_stated s).is, le-leb 1 x r.0, le-leb x max_alpha r.1) (is_rule _ AlphaRises n e)

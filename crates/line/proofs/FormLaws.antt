@@ -48,17 +48,17 @@ unfolding field_count
 tally_start s = rw one-add
 
 module _ (s : List ℕ) (i n : ℕ) (gap : Bool) where
-  pub tally-gap : i < length s → gap ≡ true → ends (drop i s) ≡ true → tally n gap (drop i s) ≡ 0
-  tally-gap h g e = let a = sym (ends_byte s i h) ∙ e in rw (g, drop-cons s i 0 h, a)
+  pub tally_gap : i < length s → gap ≡ true → ends (drop i s) ≡ true → tally n gap (drop i s) ≡ 0
+  tally_gap h g e = let a = sym (ends_byte s i h) ∙ e in rw (g, drop-cons s i 0 h, a)
 
-  pub tally-next : i < length s → gap ≡ false → ends (drop i s) ≡ true → tally n gap (drop i s) ≡ tally (n + 1) true (drop (i + 1) s)
-  tally-next h g e =
+  pub tally_next : i < length s → gap ≡ false → ends (drop i s) ≡ true → tally n gap (drop i s) ≡ tally (n + 1) true (drop (i + 1) s)
+  tally_next h g e =
       let a = sym (ends_byte s i h) ∙ e in
       rw (g, drop-cons s i 0 h, a, add-one i)
       (ap (λ (k : ℕ). pick (filled (fields (drop (suc i) s))) k 0) (omega arith))
 
-  pub tally-in : i < length s → ends (drop i s) ≡ false → tally n gap (drop i s) ≡ tally n false (drop (i + 1) s)
-  tally-in h e = rw (drop-cons s i 0 h, a, add-one i) (go gap)
+  pub tally_in : i < length s → ends (drop i s) ≡ false → tally n gap (drop i s) ≡ tally n false (drop (i + 1) s)
+  tally_in h e = rw (drop-cons s i 0 h, a, add-one i) (go gap)
     where
       a : apart (get_or s i 0) ≡ false
       a = sym (ends_byte s i h) ∙ e
@@ -67,11 +67,11 @@ module _ (s : List ℕ) (i n : ℕ) (gap : Bool) where
       go true = rw a
       go false = rw a
 
-  pub tally-end-gap : length s ≤ i → gap ≡ true → tally n gap (drop i s) ≡ 0
-  tally-end-gap h g = rw (g, drop_of_length-le s h)
+  pub tally_end_gap : length s ≤ i → gap ≡ true → tally n gap (drop i s) ≡ 0
+  tally_end_gap h g = rw (g, drop_of_length-le s h)
 
-  pub tally-end : length s ≤ i → gap ≡ false → tally n gap (drop i s) ≡ n
-  tally-end h g = rw (g, drop_of_length-le s h) (omega arith)
+  pub tally_end : length s ≤ i → gap ≡ false → tally n gap (drop i s) ≡ n
+  tally_end h g = rw (g, drop_of_length-le s h) (omega arith)
 
 -- ---- two texts' first fields
 
@@ -88,11 +88,11 @@ module _ (s w : List ℕ) (i : ℕ) where
   same_end e = rw (first_none (drop i s) e) (same_none (drop i w))
 
   module _ (e : ends (drop i s) ≡ false) where
-    pub same-longer : ends (drop i w) ≡ true → same (first (drop i s)) (first (drop i w)) ≡ false
-    same-longer d = rw (first_more s i e, first_none (drop i w) d)
+    pub same_longer : ends (drop i w) ≡ true → same (first (drop i s)) (first (drop i w)) ≡ false
+    same_longer d = rw (first_more s i e, first_none (drop i w) d)
 
-    pub same-other : ends (drop i w) ≡ false → (get_or s i 0 ≡ get_or w i 0 → ⊥) → same (first (drop i s)) (first (drop i w)) ≡ false
-    same-other d q = rw (first_more s i e, first_more w i d, ne_eqb (get_or s i 0) (get_or w i 0) q)
+    pub same_other : ends (drop i w) ≡ false → (get_or s i 0 ≡ get_or w i 0 → ⊥) → same (first (drop i s)) (first (drop i w)) ≡ false
+    same_other d q = rw (first_more s i e, first_more w i d, ne_eqb (get_or s i 0) (get_or w i 0) q)
 
     pub same_more : ends (drop i w) ≡ false → get_or s i 0 ≡ get_or w i 0 → same (first (drop i s)) (first (drop i w)) ≡ same (first (drop (i + 1) s)) (first (drop (i + 1) w))
     same_more d q = rw (first_more s i e, first_more w i d, eq-eqb (get_or s i 0) (get_or w i 0) q)

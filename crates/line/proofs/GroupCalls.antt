@@ -24,7 +24,7 @@ use Rattle.line.specs.declared.Past.{Past}
 use Rattle.line.specs.Line.{formed, value}
 use Rattle.line.specs.Stated.{StatesGroup}
 use Rattle.line.specs.Refusals.{GroupLineCalls}
-use Rattle.line.proofs.StatedLaws.{formed_states, count-in, count-stated}
+use Rattle.line.proofs.StatedLaws.{formed_states, count_in_lem, count_stated}
 
 -- 4, of G and of K
 both_in_range : (G K : ℕ) → ((within 1 max_group G && within 1 max_resources K) ≡ true) exactly_if (InRange 1 max_group G × InRange 1 max_resources K)
@@ -40,46 +40,46 @@ module _ (past : Past) (n : ℕ) {g k : List ℕ} (a : first g ≡ g) (b : first
   abbrev K : Field
   K = count_field k
 
-  abbrev groupFormed : Bool
-  groupFormed = formed G && formed K
+  abbrev group_formed : Bool
+  group_formed = formed G && formed K
 
-  abbrev groupRange : Bool
-  groupRange = within 1 max_group (value G) && within 1 max_resources (value K)
+  abbrev group_range : Bool
+  group_range = within 1 max_group (value G) && within 1 max_resources (value K)
 
-  abbrev pub groupCheck : Checked
-  groupCheck = unless groupFormed BadField n then unless groupRange OutOfRange n then unless (ltb past.group.0 (value K)) GroupNotRising n
+  abbrev pub group_check : Checked
+  group_check = unless group_formed BadField n then unless group_range OutOfRange n then unless (ltb past.group.0 (value K)) GroupNotRising n
 
   abbrev GroupCalls : ℕ → ℕ → Type 0
   GroupCalls q place = GroupLineCalls past g k q × (n ≡ place)
 
   -- the numbers that the fields state are those that are read
-  group-stated : groupFormed ≡ true → StatesGroup g k (value G) (value K)
-  group-stated f =
+  group_stated : group_formed ≡ true → StatesGroup g k (value G) (value K)
+  group_stated f =
       let h = and_true (formed G) (formed K) f in
-      record { group = count-in a (formed_states G h.0); resource = count-in b (formed_states K h.1) }
+      record { group = count_in_lem a (formed_states G h.0); resource = count_in_lem b (formed_states K h.1) }
 
-  group-formed : {x y : ℕ} → StatesGroup g k x y → groupFormed ≡ true
-  group-formed s = rw ((count-stated s.group).is, (count-stated s.resource).is)
+  group_formed_lem : {x y : ℕ} → StatesGroup g k x y → group_formed ≡ true
+  group_formed_lem s = rw ((count_stated s.group).is, (count_stated s.resource).is)
 
-  pub group-calls : (q place : ℕ) → Refuses groupCheck q place → GroupCalls q place
-  group-calls q place =
+  pub group_calls : (q place : ℕ) → Refuses group_check q place → GroupCalls q place
+  group_calls q place =
       let rising = unless (ltb past.group.0 (value K)) GroupNotRising n in
-      from_two (unless groupFormed BadField n) (unless groupRange OutOfRange n then rising) q place
-      (from_rule GroupCalls groupFormed BadField n q place (λ x. (GroupLineCalls.bad_field (λ y z s. fails _ (λ (s : StatesGroup g k y z). group-formed s) x s), refl)))
+      from_two (unless group_formed BadField n) (unless group_range OutOfRange n then rising) q place
+      (from_rule GroupCalls group_formed BadField n q place (λ x. (GroupLineCalls.bad_field (λ y z s. fails _ (λ (s : StatesGroup g k y z). group_formed_lem s) x s), refl)))
       (λ f.
-      let s = group-stated (unless_fine _ BadField n f) in
-      from_two (unless groupRange OutOfRange n) rising q place
-      (from_rule GroupCalls groupRange OutOfRange n q place (λ x. (GroupLineCalls.out_of_range s (fails _ (both_in_range (value G) (value K)).1 x), refl)))
+      let s = group_stated (unless_fine _ BadField n f) in
+      from_two (unless group_range OutOfRange n) rising q place
+      (from_rule GroupCalls group_range OutOfRange n q place (λ x. (GroupLineCalls.out_of_range s (fails _ (both_in_range (value G) (value K)).1 x), refl)))
       (λ h.
       let i = (both_in_range (value G) (value K)).0 (unless_fine _ OutOfRange n h) in
       from_rule GroupCalls (ltb past.group.0 (value K)) GroupNotRising n q place
       (λ x. (GroupLineCalls.group_not_rising s i.0 i.1 (omega (arith, fails _ (lt-ltb past.group.0 (value K)) x)), refl))))
 
-  pub group-given : {q : ℕ} → GroupLineCalls past g k q → Refuses groupCheck q n
-  group-given (GroupLineCalls.bad_field h) = by_first _ _ 3 n (is_rule groupFormed BadField n (failing groupFormed group-stated (h _ _)))
-  group-given (GroupLineCalls.out_of_range {G = x} {K = y} s h) =
-      rw ((count-stated s.group).is, (count-stated s.resource).is)
+  pub group_given : {q : ℕ} → GroupLineCalls past g k q → Refuses group_check q n
+  group_given (GroupLineCalls.bad_field h) = by_first _ _ 3 n (is_rule group_formed BadField n (failing group_formed group_stated (h _ _)))
+  group_given (GroupLineCalls.out_of_range {G = x} {K = y} s h) =
+      rw ((count_stated s.group).is, (count_stated s.resource).is)
       (by_first _ _ 4 n (is_rule (within 1 max_group x && within 1 max_resources y) OutOfRange n (failing _ (both_in_range x y).0 h)))
-  group-given (GroupLineCalls.group_not_rising {G = x} {K = y} s i j h) =
-      rw ((count-stated s.group).is, (count-stated s.resource).is, (range_is 1 max_group x).1 i, (range_is 1 max_resources y).1 j)
+  group_given (GroupLineCalls.group_not_rising {G = x} {K = y} s i j h) =
+      rw ((count_stated s.group).is, (count_stated s.resource).is, (range_is 1 max_group x).1 i, (range_is 1 max_resources y).1 j)
       (is_rule _ GroupNotRising n (le-ltb past.group.0 y h))

@@ -37,11 +37,11 @@ abbrev pub time_of : {way : Rounding} {w : List ℕ} {v : ℕ} → StatesHeld wa
 time_of t v = record { typed = t.typed; held = v }
 
 module _ {w : List ℕ} {v : ℕ} (a : first w ≡ w) where
-  pub count-in : IsRead (count_field w) v → StatesCount w v
-  count-in e = rw a at (count_states w v e.width e.is)
+  pub count_in_lem : IsRead (count_field w) v → StatesCount w v
+  count_in_lem e = rw a at (count_states w v e.width e.is)
 
-  pub time-in : (way : Rounding) → IsRead (time_field way w) v → StatesHeld way w v
-  time-in way e = rw a at (time_states way w v e.width e.is)
+  pub time_in_lem : (way : Rounding) → IsRead (time_field way w) v → StatesHeld way w v
+  time_in_lem way e = rw a at (time_states way w v e.width e.is)
 
 -- ---- from what is stated to what is read
 
@@ -49,18 +49,18 @@ pub alone_field : {w : List ℕ} → first w ≡ w → 1 ≤ length w → IsFiel
 alone_field {w} a h = let f = first_field w in record { some = h; no_space = rw a at f.0; no_end = rw a at f.1 }
 
 module _ {w : List ℕ} {v : ℕ} where
-  pub count-field : StatesCount w v → IsField w
-  count-field c = alone_field (rw append-nil at (no_apart_count w v c [] refl)) (some_count w v c)
+  pub count_field_lem : StatesCount w v → IsField w
+  count_field_lem c = alone_field (rw append-nil at (no_apart_count w v c [] refl)) (some_count w v c)
 
-  pub count-stated : StatesCount w v → IsRead (count_field w) v
-  count-stated c = record { width = length (first w); is = states_count w v (rw (rw append-nil at (no_apart_count w v c [] refl)) c) }
+  pub count_stated : StatesCount w v → IsRead (count_field w) v
+  count_stated c = record { width = length (first w); is = states_count w v (rw (rw append-nil at (no_apart_count w v c [] refl)) c) }
 
 module _ {way : Rounding} {w : List ℕ} {x : Time} where
-  pub time-field : StatesTime way w x → IsField w
-  time-field t = alone_field (rw append-nil at (no_apart_time w x.typed t.spells [] refl)) (some_time w x.typed t.spells)
+  pub time_field_lem : StatesTime way w x → IsField w
+  time_field_lem t = alone_field (rw append-nil at (no_apart_time w x.typed t.spells [] refl)) (some_time w x.typed t.spells)
 
-  pub time-stated : StatesTime way w x → IsRead (time_field way w) x.held
-  time-stated t = record { width = length (first w); is = states_time way w x (rw (rw append-nil at (no_apart_time w x.typed t.spells [] refl)) t) }
+  pub time_stated : StatesTime way w x → IsRead (time_field way w) x.held
+  time_stated t = record { width = length (first w); is = states_time way w x (rw (rw append-nil at (no_apart_time w x.typed t.spells [] refl)) t) }
 
 -- ---- the words of lines are fields
 

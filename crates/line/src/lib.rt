@@ -1,4 +1,6 @@
 // One line of a listing: its form, its fields, and the rules in the paper's order.
+#![tactic(auto)]
+
 ghost use Rattle.std.specs.Prelude.{◌≡◌, true, ◌&&◌, ◌≤◌, drop, eqb, ltb};
 ghost use Rattle.basics.specs.Text.{bytes};
 ghost use Rattle.table.specs.Limits.{max_tasks};
@@ -20,7 +22,7 @@ const RESOURCES: u32 = Table::MAX_RESOURCES as u32;
 // What the lines so far leave for the next one to be judged by: the K of the last `group` line (0: none); the tasks so far; of the
 // last of them its C, the K of its last `use` line (0: none), and the sum of its CT; how many of the tasks have an alpha, and the
 // last of these (0: none); and whether the last task is fresh, no line standing after its own.
-#[derive(Drop)]
+#[derive(Clone, Copy)]
 pub struct Past {
     pub group: Resource,
     pub tasks: usize,
@@ -33,7 +35,7 @@ pub struct Past {
 }
 
 // What a line says, or why it is refused.
-#[derive(Drop)]
+#[derive(Clone, Copy)]
 pub enum Said {
     Cpus(u32),
     Group(u32, Resource),
@@ -44,7 +46,7 @@ pub enum Said {
 }
 
 // What a field of a line is: a count, or a time and the way that it is rounded.
-#[derive(Drop)]
+#[derive(Clone, Copy)]
 enum FieldKind {
     Count,
     TimeDown,
@@ -52,7 +54,7 @@ enum FieldKind {
 }
 
 // What stands at a place of a line: a number, and the place where the next field begins; or no number.
-#[derive(Drop)]
+#[derive(Clone, Copy)]
 enum FieldAt {
     Number(u32, usize),
     NoNumber,

@@ -17,14 +17,14 @@ use Rattle.listing.specs.FirstLine.{line}
 -- ---- the length of a line, by places
 
 module _ (s : List ℕ) (i : ℕ) where
-  pub line-end : i < length s → get_or s i 0 ≡ 10 → length (line (drop i s)) ≡ 0
-  line-end h e = rw (drop-cons s i 0 h, eq-eqb _ _ e)
+  pub line_end : i < length s → get_or s i 0 ≡ 10 → length (line (drop i s)) ≡ 0
+  line_end h e = rw (drop-cons s i 0 h, eq-eqb _ _ e)
 
-  pub line-more : i < length s → (get_or s i 0 ≡ 10 → ⊥) → length (line (drop i s)) ≡ 1 + length (line (drop (i + 1) s))
-  line-more h e = rw (drop-cons s i 0 h, ne_eqb _ _ e, add-one i) (omega arith)
+  pub line_more : i < length s → (get_or s i 0 ≡ 10 → ⊥) → length (line (drop i s)) ≡ 1 + length (line (drop (i + 1) s))
+  line_more h e = rw (drop-cons s i 0 h, ne_eqb _ _ e, add-one i) (omega arith)
 
-  pub line-none : length s ≤ i → length (line (drop i s)) ≡ 0
-  line-none h = rw (drop_of_length-le s h)
+  pub line_none : length s ≤ i → length (line (drop i s)) ≡ 0
+  line_none h = rw (drop_of_length-le s h)
 
 -- ---- the first line and the rest
 

@@ -118,12 +118,12 @@ module _ {s : List ℕ} {t : Table} {past : Past} {n at k : ℕ} {said : Said} (
   pub next_fits : ((past_after past said).tasks ≤ max_tasks) × ((past_after past said).sum ≤ max_time) × ((past_after past said).alphas ≤ max_tasks)
   next_fits = (next_past.tasks_most, omega (arith, next_past), omega (arith, next_past))
 
-  pub next-line : {y : Said} → said ≡ y → Line past n (take (at + k - at) (drop at s)) y
-  next-line e = rw (sym e ∙ x.says) (line_is past n _)
+  pub next_line_lem : {y : Said} → said ≡ y → Line past n (take (at + k - at) (drop at s)) y
+  next_line_lem e = rw (sym e ∙ x.says) (line_is past n _)
 
-  next-reads : on_said said (read_from (table_after t past.tasks said) (past_after past said) (n + 1) (drop (at + k + 1) s)) ≡ read_listing s
+  next_reads : on_said said (read_from (table_after t past.tasks said) (past_after past said) (n + 1) (drop (at + k + 1) s)) ≡ read_listing s
   unfolding read_lines
-  next-reads =
+  next_reads =
       let l : length (line (drop at s)) < length (drop at s) = omega (arith, length-drop at s) in
       let j : at + suc (length (line (drop at s))) ≡ at + k + 1 = omega arith in
       let d : drop (suc (length (line (drop at s)))) (drop at s) ≡ drop (at + k + 1) s = drop-drop _ at s ∙ ap (λ (i : ℕ). drop i s) j in
@@ -131,18 +131,18 @@ module _ {s : List ℕ} {t : Table} {past : Past} {n at k : ℕ} {said : Said} (
       let q : said ≡ line_says past n (line (drop at s)) = rw (w, line_take (drop at s)) at x.says in
       rw (lines_more (drop at s) l, ends_in_LF_more true (drop at s) l, d, ← q) at x.left.reads
 
-  pub next-not : {r : Refusal} → said ≡ Not r → ◌≡◌ {A = Reading} (record { answer = Refused r; table = empty_table }) (read_listing s)
-  next-not e = rw e at next-reads
+  pub next_not : {r : Refusal} → said ≡ Not r → ◌≡◌ {A = Reading} (record { answer = Refused r; table = empty_table }) (read_listing s)
+  next_not e = rw e at next_reads
 
   -- where it says y and is not refused: the line is passed, with the table and the past that it leaves
-  pub next-left : {y : Said} {u : Table} {q : Past} → said ≡ y → ((r : Reading) → r ≡ on_said y r) → u ≡ table_after t past.tasks y → q ≡ past_after past said
+  pub next_left : {y : Said} {u : Table} {q : Past} → said ≡ y → ((r : Reading) → r ≡ on_said y r) → u ≡ table_after t past.tasks y → q ≡ past_after past said
       → Left s u q (n + 1) (at + k + 1)
-  next-left e goes f g =
+  next_left e goes f g =
       record {
         few = omega arith;
         within = omega arith;
         ok = rw g next_past;
-        reads = rw (f, g, e) (goes _ ∙ rw e at next-reads);
+        reads = rw (f, g, e) (goes _ ∙ rw e at next_reads);
       }
 
 -- what a `group` line owes to its resource

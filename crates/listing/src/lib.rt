@@ -1,4 +1,6 @@
 // A listing to a table.
+#![tactic(auto)]
+
 ghost use Rattle.std.specs.Prelude.{◌≡◌, true, ◌-◌, ◌≤◌, length};
 ghost use Rattle.table.specs.Limits.{max_tasks, max_resources, max_time, max_listing};
 ghost use Rattle.table.specs.At.{with_alpha};

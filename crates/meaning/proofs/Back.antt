@@ -9,7 +9,7 @@ use lib.Dec.{ltb, leb-suc-suc}
 use borrow.Author.Tests.{lt-ltb, le-ltb}
 use Rattle.basics.specs.Choice.{pick}
 use Rattle.basics.specs.Over.{row_to}
-use Rattle.basics.proofs.JoinLaws.{join-eq}
+use Rattle.basics.proofs.JoinLaws.{join_eq}
 use Rattle.table.specs.declared.Task.{Task}
 use Rattle.table.specs.Limits.{max_tasks, max_resources}
 use Rattle.table.specs.Empty.{unused_pair, empty_task}
@@ -21,7 +21,7 @@ use Rattle.meaning.specs.Figures.{TaskFigures, Figures, group_for, pair_for, tas
 use Rattle.writing.specs.Write.{pair_text, task_text, member_text, head_text, text_of}
 use Rattle.writing.proofs.LongestText.{longest_text}
 use Rattle.meaning.specs.Back.{TextFits, ReadsBack, Rewrites, SameText}
-use Rattle.basics.proofs.RowLaws.{row_at, row-eq}
+use Rattle.basics.proofs.RowLaws.{row_at, row_eq}
 use Rattle.meaning.proofs.TableLaws.{table}
 use Rattle.meaning.proofs.Meaning.{correct, complete, passes_check}
 use Rattle.meaning.proofs.TextFigures.{text_states}
@@ -42,7 +42,7 @@ reads_back t e =
 
 task_clear : (x : TaskFigures) → cleared_task (task_of x) ≡ task_of x
 unfolding cleared_task task_of
-task_clear x = rw (row-eq max_resources (pair_of (task_of x)) (pair_for x.uses) (λ k h. row_at max_resources k (pair_for x.uses) unused_pair h))
+task_clear x = rw (row_eq max_resources (pair_of (task_of x)) (pair_for x.uses) (λ k h. row_at max_resources k (pair_for x.uses) unused_pair h))
 
 tasks_clear : (xs : List TaskFigures) (i : ℕ) → pick (ltb i (length xs)) (cleared_task (task_for xs i)) empty_task ≡ task_for xs i
 tasks_clear [] i = rw (le-ltb i 0 (omega arith))
@@ -52,9 +52,9 @@ tasks_clear (x ∷ xs) (suc i) = rw leb-suc-suc (tasks_clear xs i)
 table_clear : (f : Figures) → cleared (table_of f) ≡ table_of f
 unfolding cleared table_of
 table_clear f =
-    rw (row-eq max_resources (group_at (table_of f)) (group_for f.groups) (λ k h. row_at max_resources k (group_for f.groups) 0 h))
+    rw (row_eq max_resources (group_at (table_of f)) (group_for f.groups) (λ k h. row_at max_resources k (group_for f.groups) 0 h))
     (ap (table f.M (row_to max_resources (group_for f.groups)) (length f.tasks))
-    (row-eq max_tasks _ _ (λ i h. rw (row_at max_tasks i (task_for f.tasks) no_task h) (tasks_clear f.tasks i))))
+    (row_eq max_tasks _ _ (λ i h. rw (row_at max_tasks i (task_for f.tasks) no_task h) (tasks_clear f.tasks i))))
 
 pub rewrites : Rewrites
 rewrites s t q =
@@ -65,9 +65,9 @@ rewrites s t q =
 
 task_text_lem : (x y : Task) → SameTask x y → task_text x ≡ task_text y
 unfolding task_text pair_text
-task_text_lem x y s = rw (s.period, s.run, s.deadline, s.alpha, join-eq max_resources (pair_text x) (pair_text y) (λ k h. rw (s.pairs k h)))
+task_text_lem x y s = rw (s.period, s.run, s.deadline, s.alpha, join_eq max_resources (pair_text x) (pair_text y) (λ k h. rw (s.pairs k h)))
 
 pub same_text : SameText
 unfolding text_of head_text member_text
 same_text a b s =
-    rw (s.cpus, join-eq max_resources (member_text a.groups) (member_text b.groups) (λ k h. rw (s.groups k h)), join-eq a.n (λ i. task_text (task_at a i)) (λ i. task_text (task_at b i)) (λ i h. task_text_lem (task_at a i) (task_at b i) (s.tasks i h)), s.n)
+    rw (s.cpus, join_eq max_resources (member_text a.groups) (member_text b.groups) (λ k h. rw (s.groups k h)), join_eq a.n (λ i. task_text (task_at a i)) (λ i. task_text (task_at b i)) (λ i h. task_text_lem (task_at a i) (task_at b i) (s.tasks i h)), s.n)

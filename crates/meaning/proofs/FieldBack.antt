@@ -18,7 +18,7 @@ use Rattle.field.proofs.DigitLaws.{number_append}
 use Rattle.field.proofs.RoundingLaws.{whole_to}
 use Rattle.field.proofs.Spelled.{value_number, states_count, states_time, no_apart_count, no_apart_time}
 use Rattle.put.proofs.TextLaws.{width_least, width_few, width_enough, digits_length}
-use Rattle.put.proofs.TimeLaws.{Trimmed, trimmed, time-plain, time-point}
+use Rattle.put.proofs.TimeLaws.{Trimmed, trimmed, time_plain, time_point}
 
 -- ---- what is written states what it was written for
 
@@ -73,11 +73,11 @@ time_spells us h = let t = trimmed (us % 1000) (omega arith) in go t.0 t.1 t.2
     v = count_value (us / 1000) (omega arith)
 
     go : (k y : ℕ) → Trimmed (us % 1000) k y → Spells (time_text us) (us * 1000)
-    go zero y t = rw (time-plain us zero y t.is refl) (whole {ns = us * 1000} q (omega (arith, v, t.small, t.worth)))
+    go zero y t = rw (time_plain us zero y t.is refl) (whole {ns = us * 1000} q (omega (arith, v, t.small, t.worth)))
     go (suc k) y t =
         let n = digits_length (suc k) y in
         let m = millionths (suc k) (us % 1000) y t.few t.worth in
-        rw (time-point us (suc k) y t.is (λ z. omega arith))
+        rw (time_point us (suc k) y t.is (λ z. omega arith))
         (Spelling.pointed {ns = us * 1000} q (digits_to 6 (suc k) y (omega arith) (omega (arith, t.few))) (rw (n, ← digits_value (suc k) y t.small, ← v, ← m) (omega arith)))
 
 -- a time typed to the microsecond

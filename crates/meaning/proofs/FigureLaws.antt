@@ -21,7 +21,7 @@ use Rattle.table.specs.Empty.{unused_pair}
 use Rattle.table.specs.At.{no_task, task_at, alpha_at, total_of}
 use Rattle.table.specs.Rules.{alphas_to}
 use Rattle.table.proofs.RuleFacts.{all_or_none_is}
-use Rattle.table.proofs.AlphaLaws.{holds_unless, some-only-is, AllOrNone, NeverRises, all_or_none_reads}
+use Rattle.table.proofs.AlphaLaws.{holds_unless, some_only_is, AllOrNone, NeverRises, all_or_none_reads}
 use Rattle.table.specs.Accepted.{GoodPair, GoodTask, Accepted}
 use Rattle.line.specs.Stated.{UseFigures, held_pair}
 use Rattle.meaning.specs.Figures.{TaskFigures, Figures, GoodUses, GoodTaskFigures, GoodAlpha, GoodTasks, alphas_of, GoodFigures, group_for, use_for, pair_for, task_of, task_for, table_of}
@@ -95,29 +95,29 @@ good_tasks zero (GoodTasks.one_task {x = x} g a r) h = good_task x g a
 good_tasks (suc i) (GoodTasks.one_task g a r) h = good_tasks i r (omega arith)
 
 module _ (f : Figures) (g : GoodFigures f) where
-  task-at : (i : ℕ) → i < length f.tasks → task_at (table_of f) i ≡ task_for f.tasks i
+  task_at_lem : (i : ℕ) → i < length f.tasks → task_at (table_of f) i ≡ task_for f.tasks i
   unfolding table_of
-  task-at i h = row_at max_tasks i (task_for f.tasks) no_task (omega (arith, g.so_far.tasks_most))
+  task_at_lem i h = row_at max_tasks i (task_for f.tasks) no_task (omega (arith, g.so_far.tasks_most))
 
   -- alpha for all tasks or none
-  table-alphas : AllOrNone (table_of f)
+  table_alphas : AllOrNone (table_of f)
   unfolding table_of
-  table-alphas =
+  table_alphas =
       let t = table_of f in
       let e : alphas_to t t.n ≡ alphas_of f.tasks =
-      sum_eq (length f.tasks) _ _ (λ i h. ap (λ (x : Task). only (ltb 0 x.alpha) 1) (task-at i h)) ∙ counted g.so_far.tasks in
-      (all_or_none_reads t).0 ((holds_unless _ (some-only-is t)).0 (rw e ((all_or_none_is (alphas_of f.tasks) (length f.tasks)).1 g.alphas)))
+      sum_eq (length f.tasks) _ _ (λ i h. ap (λ (x : Task). only (ltb 0 x.alpha) 1) (task_at_lem i h)) ∙ counted g.so_far.tasks in
+      (all_or_none_reads t).0 ((holds_unless _ (some_only_is t)).0 (rw e ((all_or_none_is (alphas_of f.tasks) (length f.tasks)).1 g.alphas)))
 
-  table-falls : NeverRises (table_of f)
+  table_falls : NeverRises (table_of f)
   unfolding table_of
-  table-falls i h =
-      subst (λ (x : Task). alpha_at (table_of f) (suc i) ≤ x.alpha) (sym (task-at i (omega arith)))
-      (subst (λ (x : Task). x.alpha ≤ alpha_for f.tasks i) (sym (task-at (suc i) h)) (go (ℕ_discrete (alpha_for f.tasks i) 0) (ℕ_discrete (alpha_for f.tasks (suc i)) 0)))
+  table_falls i h =
+      subst (λ (x : Task). alpha_at (table_of f) (suc i) ≤ x.alpha) (sym (task_at_lem i (omega arith)))
+      (subst (λ (x : Task). x.alpha ≤ alpha_for f.tasks i) (sym (task_at_lem (suc i) h)) (go (ℕ_discrete (alpha_for f.tasks i) 0) (ℕ_discrete (alpha_for f.tasks (suc i)) 0)))
     where
       given : 1 ≤ alpha_for f.tasks (suc i) → 1 ≤ alpha_for f.tasks i
       given l =
-          let a = table-alphas (suc i) i h (omega arith) (subst (λ (x : Task). 1 ≤ x.alpha) (sym (task-at (suc i) h)) l) in
-          subst (λ (x : Task). 1 ≤ x.alpha) (task-at i (omega arith)) a
+          let a = table_alphas (suc i) i h (omega arith) (subst (λ (x : Task). 1 ≤ x.alpha) (sym (task_at_lem (suc i) h)) l) in
+          subst (λ (x : Task). 1 ≤ x.alpha) (task_at_lem i (omega arith)) a
 
       go : Dec (alpha_for f.tasks i ≡ 0) → Dec (alpha_for f.tasks (suc i) ≡ 0) → alpha_for f.tasks (suc i) ≤ alpha_for f.tasks i
       go (no d) e = falls i g.so_far.tasks h (omega arith)
@@ -133,7 +133,7 @@ good_table f g =
       cpus_least = g.so_far.cpus_least;
       cpus_most = g.so_far.cpus_most;
       groups_most = λ k h. rw (row_at max_resources k (group_for f.groups) 0 h) (group_most k g.so_far.groups);
-      all_or_none_reads = table-alphas f g;
-      never_rises = table-falls f g;
+      all_or_none_reads = table_alphas f g;
+      never_rises = table_falls f g;
       task = λ i h. rw (row_at max_tasks i (task_for f.tasks) no_task (omega (arith, g.so_far.tasks_most))) (good_tasks i g.so_far.tasks h);
     }

@@ -11,7 +11,7 @@ use Rattle.basics.specs.Over.{row_to}
 use Rattle.table.specs.Limits.{max_resources, max_group}
 use Rattle.table.specs.Empty.{no_groups}
 use Rattle.meaning.specs.Figures.{GroupFigures, GoodGroups, group_for}
-use Rattle.meaning.proofs.PutRows.{Rising, no_entry, one_entry, put, row-stored}
+use Rattle.meaning.proofs.PutRows.{Rising, no_entry, one_entry, put, row_stored}
 
 abbrev resource_of : GroupFigures → ℕ
 resource_of x = x.K
@@ -27,7 +27,7 @@ rising GoodGroups.no_group = no_entry
 rising (GoodGroups.one_group {x = x} i j a b r) = one_entry {x = x} a b (rising r)
 
 pub groups_stored : {xs : List GroupFigures} → GoodGroups 0 xs → put_groups no_groups xs ≡ row_to max_resources (group_for xs)
-groups_stored g = row-stored resource_of group_of 0 (rising g)
+groups_stored g = row_stored resource_of group_of 0 (rising g)
 
 pub group_most : {last : ℕ} {xs : List GroupFigures} (k : ℕ) → GoodGroups last xs → group_for xs k ≤ max_group
 group_most k GoodGroups.no_group = omega arith

@@ -16,7 +16,7 @@ use Rattle.line.specs.declared.Said.TheVariants.{Group}
 use Rattle.line.specs.Fields.{others, form}
 use Rattle.line.specs.Line.{count_in, line_says}
 use Rattle.line.proofs.WordLaws.{fields_from, form_line}
-use Rattle.line.proofs.StatedLaws.{others_alone, count-in}
+use Rattle.line.proofs.StatedLaws.{others_alone, count_in_lem}
 use Rattle.line.proofs.LineRules.{GroupRules, Line, is_cpus, is_group, is_task, is_alpha, is_use, is_not}
 use Rattle.line.proofs.Says.{line_is}
 use Rattle.listing.specs.Lines.{lines}
@@ -24,7 +24,7 @@ use Rattle.listing.specs.Read.{after_task, past_after}
 use Rattle.meaning.specs.Figures.{no_alpha, GroupFigures, StatesGroups, by_group_line, GoodGroups}
 use Rattle.meaning.proofs.SplitLaws.{Start, start_of, no_line_of, word_text_lem}
 use Rattle.meaning.proofs.StatesRead.{past_groups}
-use Rattle.meaning.proofs.ReadStates.{at_end, at_line, Stating, stating-none, task-states, states_to}
+use Rattle.meaning.proofs.ReadStates.{at_end, at_line, Stating, stating_none, task_states, states_to}
 
 -- the text s, from line n on, before any task: groups, and then what follows them
 pub record Head (past : Past) (n : ℕ) (s : List ℕ) : Type 0 where
@@ -40,10 +40,10 @@ module _ (past : Past) (n : ℕ) {s : List ℕ} where
   no_groups : Stating past n s no_alpha → Head past n s
   no_groups x = record { groups = []; first = []; rest = s; text = refl; states = StatesGroups.no_group; good = GoodGroups.no_group; stating = rw (add-zero n) x }
 
-  group-states : {l : List ℕ} {ls : List (List ℕ)} {G : ℕ} {K : Resource} (a : Start s l ls) → form (bytes "group") 3 l ≡ true
+  group_states : {l : List ℕ} {ls : List (List ℕ)} {G : ℕ} {K : Resource} (a : Start s l ls) → form (bytes "group") 3 l ≡ true
       → GroupRules past (count_in l 1) (count_in l 2) G K → Head (past_after past (Group G K)) (n + 1) a.rest → Head past n s
   unfolding past_after
-  group-states {l} {G = G} {K} a f r x =
+  group_states {l} {G = G} {K} a f r x =
       let line = line_of "group" (fields_from 2 0 (others l)) in
       let y : GroupFigures = record { G = G; K = K.0 } in
       let e : n + 1 + length x.groups ≡ n + length (y ∷ x.groups) = omega arith in
@@ -52,14 +52,14 @@ module _ (past : Past) (n : ℕ) {s : List ℕ} where
         first = line ++ x.first;
         rest = x.rest;
         text = a.text ∙ word_text_lem a.rest (form_line "group" 2 l a.clean f) ∙ rw (x.text, append_assoc line x.first x.rest);
-        states = by_group_line {x = y} (record { group = count-in (others_alone l 0) r.group; resource = count-in (others_alone l 1) r.resource }) x.states;
+        states = by_group_line {x = y} (record { group = count_in_lem (others_alone l 0) r.group; resource = count_in_lem (others_alone l 1) r.resource }) x.states;
         good = GoodGroups.one_group {x = y} r.group_least r.group_most r.rising r.most x.good;
         stating = rw (← e) x.stating;
       }
 
 pub heads_to : (ls : List (List ℕ)) (s : List ℕ) (past : Past) (n : ℕ) → lines s ≡ ls → 1 < n → past.tasks ≡ 0 → past.fresh ≡ false → Head past n s
 unfolding past_after
-heads_to [] s past n e h z f = no_groups past n (stating-none past n (omega arith) (at_end (no_line_of s e)))
+heads_to [] s past n e h z f = no_groups past n (stating_none past n (omega arith) (at_end (no_line_of s e)))
 heads_to (l ∷ ls) s past n e h z f = go (line_says past n l) refl (line_is past n l) (λ past j k. heads_to ls a.rest past (n + 1) a.left (omega arith) j k)
   where
     a : Start s l ls
@@ -70,9 +70,9 @@ heads_to (l ∷ ls) s past n e h z f = go (line_says past n l) refl (line_is pas
 
     go : (x : Said) → line_says past n l ≡ x → Line past n l x → ((past : Past) → past.tasks ≡ 0 → past.fresh ≡ false → Head past (n + 1) a.rest) → Head past n s
     go _ d (is_cpus i e r) ih = absurd (omega arith)
-    go _ d (is_group {G} {K} i e j r) ih = group-states past n a i r (ih (past_after past (Group G K)) z f)
+    go _ d (is_group {G} {K} i e j r) ih = group_states past n a i r (ih (past_after past (Group G K)) z f)
     go _ d (is_task {C = C} i e r) ih =
-        no_groups past n (task-states past n m a i r (states_to ls a.rest (after_task past C) (n + 1) a.left (omega arith) (omega arith) (omega (arith, r.room))))
+        no_groups past n (task_states past n m a i r (states_to ls a.rest (after_task past C) (n + 1) a.left (omega arith) (omega arith) (omega (arith, r.room))))
     go _ d (is_alpha i e r) ih = absurd (true≢false (sym e ∙ f))
     go _ d (is_use i e r) ih = absurd (omega arith)
-    go _ d (is_not r) ih = no_groups past n (stating-none past n m (at_line l a.rest r a.text a.clean d))
+    go _ d (is_not r) ih = no_groups past n (stating_none past n m (at_line l a.rest r a.text a.clean d))

@@ -43,16 +43,16 @@ before_read left no_line = (empty_table, refl)
 before_read left (some_lines {f = f} a g) = (table_of f, figures_read left a g)
 
 module _ (s : List ℕ) (l : length s ≤ max_listing) where
-  text-read : read_listing s ≡ read_text empty_table no_lines 1 s
+  text_read : read_listing s ≡ read_text empty_table no_lines 1 s
   unfolding read_listing
-  text-read = rw (le-leb (length s) max_listing l)
+  text_read = rw (le-leb (length s) max_listing l)
 
   -- where it goes on with what is left, the answer is what is answered there
   goes_on : {before : List ℕ} {n : ℕ} {f : Figures} (left : List ℕ) (x : Checked) → s ≡ before ++ left → Before before n f
       → ((t : Table) → (read_text t (left_by f) n left).answer ≡ x) → (read_listing s).answer ≡ x
   goes_on left x e b h =
       let r = before_read left b in
-      ap (λ (y : Reading). y.answer) (text-read ∙ ap (read_text empty_table no_lines 1) e ∙ r.1) ∙ h r.0
+      ap (λ (y : Reading). y.answer) (text_read ∙ ap (read_text empty_table no_lines 1) e ∙ r.1) ∙ h r.0
 
 tells : (s : List ℕ) (f : Fault) (place : ℕ) → (read_listing s).answer ≡ Refused (record { fault = f; place = place }) → Refuses (read_listing s).answer (number_of f) place
 tells s f place e = (_, e, record { number = refl; place = refl })
@@ -119,14 +119,14 @@ end_called {s} l (some_lines {f = f} a g) = go f.tasks refl
 
 module _ (s : List ℕ) (l : length s ≤ max_listing) where
   -- where it stops, something is called for, or nothing is said against it
-  stop-called : (before left : List ℕ) {n : ℕ} {f : Figures} → s ≡ before ++ left → Before before n f → Stops (left_by f) n left
+  stop_called : (before left : List ℕ) {n : ℕ} {f : Figures} → s ≡ before ++ left → Before before n f → Stops (left_by f) n left
       → Called s ⊎ ((read_listing s).answer ≡ Fine)
   unfolding read_end
-  stop-called before left e b (at_line line rest r d w x) =
+  stop_called before left e b (at_line line rest r d w x) =
       let c = (line_refused _ _ line _ _ w).0 (r, x, record { number = refl; place = refl }) in
       inl (_, _, CallsFor.at_line before line rest l (e ∙ ap (λ (y : List ℕ). before ++ y) d) w b c.0)
-  stop-called before left e b (at_end (one_byte m r)) = inl (_, _, CallsFor.not_ended before left l e (one_byte m r) (omega arith) b)
-  stop-called before left {n} {f} e b (at_end no_byte) = go (end_called {f = f} l (rw w b))
+  stop_called before left e b (at_end (one_byte m r)) = inl (_, _, CallsFor.not_ended before left l e (one_byte m r) (omega arith) b)
+  stop_called before left {n} {f} e b (at_end no_byte) = go (end_called {f = f} l (rw w b))
     where
       w : s ≡ before
       w = e ∙ append-nil before
@@ -137,12 +137,12 @@ module _ (s : List ℕ) (l : length s ≤ max_listing) where
           let c = left_counts f in
           inr (goes_on s l [] Fine e b (λ t. ap (λ (y : Reading). y.answer) (stop_end t (left_by f) n no_byte) ∙ rw (lt-ltb 1 n h.0, c.0, c.1, lt-ltb 0 (length f.tasks) h.1, h.2)))
 
-  all-called : Called s ⊎ ((read_listing s).answer ≡ Fine)
-  all-called = go (states_up_to s)
+  all_called : Called s ⊎ ((read_listing s).answer ≡ Fine)
+  all_called = go (states_up_to s)
     where
       go : StatesUpTo s → Called s ⊎ ((read_listing s).answer ≡ Fine)
-      go (stops_first x) = stop-called [] s refl no_line x
-      go (stops_later before left f e a g x) = stop-called before left e (some_lines a g) x
+      go (stops_first x) = stop_called [] s refl no_line x
+      go (stops_later before left f e a g x) = stop_called before left e (some_lines a g) x
 
 called : (s : List ℕ) {number place : ℕ} → Refuses (read_listing s).answer number place → CallsFor s number place
 called s {number} {place} (r, e, t) = go (dec_lt max_listing (length s))
@@ -157,7 +157,7 @@ called s {number} {place} (r, e, t) = go (dec_lt max_listing (length s))
 
     go : Dec (max_listing < length s) → CallsFor s number place
     go (yes l) = one (inl (1, 0, CallsFor.too_long l))
-    go (no l) = one (all-called s (omega arith))
+    go (no l) = one (all_called s (omega arith))
 
 pub refused_as_called : RefusedAsCalled
 refused_as_called = record { line = line_refused; listing = λ s number place. (called s, answered s) }

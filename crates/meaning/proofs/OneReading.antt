@@ -12,11 +12,11 @@ use Rattle.field.proofs.OneNumber.{count_one, time_one}
 use Rattle.line.specs.Fields.{others}
 use Rattle.line.specs.Stated.{IsField, AreFields, none, more, UseFigures}
 use Rattle.line.proofs.LineForm.{line_fields}
-use Rattle.line.proofs.StatedLaws.{count-field, cpus_word, group_word, task_word, alpha_word, use_word}
+use Rattle.line.proofs.StatedLaws.{count_field_lem, cpus_word, group_word, task_word, alpha_word, use_word}
 use Rattle.listing.specs.Lines.{lines}
 use Rattle.meaning.specs.Figures.{AlphaFigure, alpha_of, TaskFigures, GroupFigures, Figures, StatesGroups, by_group_line, StatesAlpha, no_alpha_line, by_alpha_line, StatesUses, by_use_line, StatesTasks, by_task_line, StatesFigures, by_cpus_line}
 use Rattle.meaning.specs.Meaning.{Unambiguous}
-use Rattle.meaning.proofs.SplitLaws.{line-split, begun}
+use Rattle.meaning.proofs.SplitLaws.{line_split, begun}
 use Rattle.meaning.proofs.StatesRead.{group_fields, task_fields, use_fields}
 
 -- ---- a text begins with one line, and that has one row of fields
@@ -31,7 +31,7 @@ one_line : (word : String) {ws vs : List (List ℕ)} {rest after : List ℕ} →
 one_line word {ws} {vs} {rest} {after} a b c e =
     let r = begun word rest a b in
     let q = begun word after a c in
-    let l = sym (line-split rest r.clean) ∙ ap lines (sym r.text ∙ e ∙ q.text) ∙ line-split after q.clean in
+    let l = sym (line_split rest r.clean) ∙ ap lines (sym r.text ∙ e ∙ q.text) ∙ line_split after q.clean in
     let k : r.l ≡ q.l = cc in
     let f : ws ≡ vs = sym (line_fields a r.line).1 ∙ ap others k ∙ (line_fields a q.line).1 in
     record {
@@ -81,7 +81,7 @@ alpha_one no_alpha_line no_alpha_line p q e = record { same = refl; left = e }
 alpha_one no_alpha_line (by_alpha_line c) p q e = absurd (p (ap first_byte e))
 alpha_one (by_alpha_line c) no_alpha_line p q e = absurd (q (sym (ap first_byte e)))
 alpha_one (by_alpha_line c) (by_alpha_line d) p q e =
-    let o = one_line "alpha" alpha_word (more (count-field c) none) (more (count-field d) none) e in
+    let o = one_line "alpha" alpha_word (more (count_field_lem c) none) (more (count_field_lem d) none) e in
     record { same = ap alpha_of (count_one (cc o.same) c d); left = o.left }
 
 uses_no_alpha : {s : List ℕ} {us : List UseFigures} (rest : List ℕ) → StatesUses s us → NoAlphaLine rest → NoAlphaLine (s ++ rest)
@@ -137,7 +137,7 @@ groups_one {rest = rest} {after} (by_group_line {g} {k} {rest = z} {x} a r) (by_
 
 figures_one : {s t : List ℕ} {f g : Figures} → StatesFigures s f → StatesFigures t g → s ≡ t → f ≡ g
 figures_one {f = f} {g} (by_cpus_line a b r) (by_cpus_line a' b' r') e =
-    let o = one_line "cpus" cpus_word (more (count-field a) none) (more (count-field a') none) e in
+    let o = one_line "cpus" cpus_word (more (count_field_lem a) none) (more (count_field_lem a') none) e in
     let c : f.M ≡ g.M = count_one (cc o.same) a a' in
     let i = groups_one b b' (tasks_no_group r) (tasks_no_group r') o.left in
     let h = i.same in

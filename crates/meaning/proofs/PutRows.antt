@@ -25,9 +25,9 @@ module _ {F A : Type 0} (K : F → ℕ) (entry : F → A) (nothing : A) where
   put row (x ∷ xs) = put (set row (K x - 1) (entry x)) xs
 
   -- the entry for resource k + 1
-  abbrev pub entryFor : List F → ℕ → A
-  entryFor [] k = nothing
-  entryFor (x ∷ xs) k = pick (eqb (K x) (suc k)) (entry x) (entryFor xs k)
+  abbrev pub entry_for : List F → ℕ → A
+  entry_for [] k = nothing
+  entry_for (x ∷ xs) k = pick (eqb (K x) (suc k)) (entry x) (entry_for xs k)
 
   put_length_reads : (row : List A) (xs : List F) → length (put row xs) ≡ length row
   put_length_reads row [] = refl
@@ -39,23 +39,23 @@ module _ {F A : Type 0} (K : F → ℕ) (entry : F → A) (nothing : A) where
   put_low row k (one_entry {x = x} a b r) h =
       put_low (set row (K x - 1) (entry x)) k r (omega arith) ∙ get_or-set_other row (K x - 1) k (entry x) nothing (λ q. omega arith)
 
-  put-at : {last : ℕ} {xs : List F} (row : List A) (k : ℕ) → Rising last xs → length row ≡ max_resources
-      → get_or row k nothing ≡ nothing → get_or (put row xs) k nothing ≡ entryFor xs k
-  put-at row k no_entry l e = e
-  put-at row k (one_entry {x = x} {xs = xs} a b r) l e = go (ℕ_discrete (K x) (suc k)) (put-at now k r (length-set row _ _ ∙ l))
+  put_at_lem : {last : ℕ} {xs : List F} (row : List A) (k : ℕ) → Rising last xs → length row ≡ max_resources
+      → get_or row k nothing ≡ nothing → get_or (put row xs) k nothing ≡ entry_for xs k
+  put_at_lem row k no_entry l e = e
+  put_at_lem row k (one_entry {x = x} {xs = xs} a b r) l e = go (ℕ_discrete (K x) (suc k)) (put_at_lem now k r (length-set row _ _ ∙ l))
     where
       now : List A
       now = set row (K x - 1) (entry x)
 
-      go : Dec (K x ≡ suc k) → (get_or now k nothing ≡ nothing → get_or (put now xs) k nothing ≡ entryFor xs k)
-          → get_or (put now xs) k nothing ≡ pick (eqb (K x) (suc k)) (entry x) (entryFor xs k)
+      go : Dec (K x ≡ suc k) → (get_or now k nothing ≡ nothing → get_or (put now xs) k nothing ≡ entry_for xs k)
+          → get_or (put now xs) k nothing ≡ pick (eqb (K x) (suc k)) (entry x) (entry_for xs k)
       go (yes q) ih =
           let p : K x - 1 ≡ k = omega arith in
           rw (eq-eqb (K x) (suc k) q)
           (put_low now k r (omega arith) ∙ ap (λ (i : ℕ). get_or (set row i (entry x)) k nothing) p ∙ get_or-set_same row k (entry x) nothing (omega arith))
       go (no q) ih = rw (ne_eqb (K x) (suc k) q) (ih (get_or-set_other row (K x - 1) k (entry x) nothing (λ z. q (omega arith)) ∙ e))
 
-  pub row-stored : {xs : List F} → Rising 0 xs → put (replicate max_resources nothing) xs ≡ row_to max_resources (entryFor xs)
-  row-stored {xs} g =
-      row_is max_resources (entryFor xs) nothing (put (replicate max_resources nothing) xs) (put_length_reads (replicate max_resources nothing) xs)
-      (λ k h. put-at (replicate max_resources nothing) k g refl (get_or-replicate max_resources k nothing nothing h))
+  pub row_stored : {xs : List F} → Rising 0 xs → put (replicate max_resources nothing) xs ≡ row_to max_resources (entry_for xs)
+  row_stored {xs} g =
+      row_is max_resources (entry_for xs) nothing (put (replicate max_resources nothing) xs) (put_length_reads (replicate max_resources nothing) xs)
+      (λ k h. put_at_lem (replicate max_resources nothing) k g refl (get_or-replicate max_resources k nothing nothing h))

@@ -21,7 +21,7 @@ use Rattle.line.specs.Fields.{others, form}
 use Rattle.line.specs.Line.{count_in, time_in, line_says}
 use Rattle.line.specs.Stated.{Without, UseFigures}
 use Rattle.line.proofs.WordLaws.{fields_from, form_line}
-use Rattle.line.proofs.StatedLaws.{others_alone, time_of, count-in, time-in}
+use Rattle.line.proofs.StatedLaws.{others_alone, time_of, count_in_lem, time_in_lem}
 use Rattle.line.proofs.LineRules.{TaskRules, AlphaRules, UseRules, Line, is_cpus, is_group, is_task, is_alpha, is_use, is_not}
 use Rattle.line.proofs.Says.{line_is}
 use Rattle.listing.specs.Lines.{lines}
@@ -75,8 +75,8 @@ no_own x = x.text ∙ rw (own_none x.states_alpha)
 
 module _ (past : Past) (n : ℕ) {s : List ℕ} (m : past.tasks ≤ max_tasks) where
   -- nothing is stated, and it stops at once
-  pub stating-none : Stops past n s → Stating past n s no_alpha
-  stating-none x =
+  pub stating_none : Stops past n s → Stating past n s no_alpha
+  stating_none x =
       record {
         uses = [];
         tasks = [];
@@ -95,14 +95,14 @@ module _ (past : Past) (n : ℕ) {s : List ℕ} (m : past.tasks ≤ max_tasks) w
         stops = rw (add-zero n) x;
       }
 
-  pub task-states : {l : List ℕ} {ls : List (List ℕ)} {T C D : ℕ} (a : Start s l ls) → form (bytes "task") 4 l ≡ true
+  pub task_states : {l : List ℕ} {ls : List (List ℕ)} {T C D : ℕ} (a : Start s l ls) → form (bytes "task") 4 l ≡ true
       → TaskRules past (time_in Down l 1) (time_in Up l 2) (time_in Down l 3) T C D → StatingAny (after_task past C) (n + 1) a.rest → Stating past n s no_alpha
-  task-states {l} {T = T} {C} {D} a f r z =
+  task_states {l} {T = T} {C} {D} a f r z =
       let x = z.stating in
       let line = line_of "task" (fields_from 3 0 (others l)) in
-      let period = time-in (others_alone l 0) Down r.period in
-      let run = time-in (others_alone l 1) Up r.run in
-      let deadline = time-in (others_alone l 2) Down r.deadline in
+      let period = time_in_lem (others_alone l 0) Down r.period in
+      let run = time_in_lem (others_alone l 1) Up r.run in
+      let deadline = time_in_lem (others_alone l 2) Down r.deadline in
       let y : TaskFigures = record { T = time_of period T; C = time_of run C; D = time_of deadline D; alpha = z.alpha; uses = x.uses } in
       let e : n + 1 + (alpha_lines z.alpha + length x.uses + line_count x.tasks) ≡ n + (0 + 0 + line_count (y ∷ x.tasks)) = omega arith in
       record {
@@ -126,10 +126,10 @@ module _ (past : Past) (n : ℕ) {s : List ℕ} (m : past.tasks ≤ max_tasks) w
         stops = let q = x.stops in rw (← e) (rw (task_left past y) at q);
       }
 
-  alpha-states : {l : List ℕ} {ls : List (List ℕ)} {A : ℕ} (a : Start s l ls) → form (bytes "alpha") 2 l ≡ true
+  alpha_states : {l : List ℕ} {ls : List (List ℕ)} {A : ℕ} (a : Start s l ls) → form (bytes "alpha") 2 l ≡ true
       → AlphaRules past (count_in l 1) A → Stating (past_after past (Alpha A)) (n + 1) a.rest no_alpha → Stating past n s (alpha_of A)
   unfolding past_after
-  alpha-states {l} {A = A} a f r x =
+  alpha_states {l} {A = A} a f r x =
       let line = line_of "alpha" (fields_from 1 0 (others l)) in
       let e : n + 1 + (0 + length x.uses + line_count x.tasks) ≡ n + (1 + length x.uses + line_count x.tasks) = omega arith in
       record {
@@ -140,7 +140,7 @@ module _ (past : Past) (n : ℕ) {s : List ℕ} (m : past.tasks ≤ max_tasks) w
         second = x.second;
         left = x.left;
         text = a.text ∙ word_text_lem a.rest (form_line "alpha" 1 l a.clean f) ∙ ap (λ (y : List ℕ). line ++ y) (no_own x);
-        states_alpha = by_alpha_line (count-in (others_alone l 0) r.field);
+        states_alpha = by_alpha_line (count_in_lem (others_alone l 0) r.field);
         states_uses = x.states_uses;
         states_tasks = x.states_tasks;
         good_alpha = GoodAlpha.given r.least r.most ((may_follow_is past.alpha A).0 r.follows);
@@ -150,14 +150,14 @@ module _ (past : Past) (n : ℕ) {s : List ℕ} (m : past.tasks ≤ max_tasks) w
         stops = rw (← e) x.stops;
       }
 
-  use-states : {l : List ℕ} {ls : List (List ℕ)} {K : Resource} {p : Pair} (a : Start s l ls) → form (bytes "use") 5 l ≡ true
+  use_states : {l : List ℕ} {ls : List (List ℕ)} {K : Resource} {p : Pair} (a : Start s l ls) → form (bytes "use") 5 l ≡ true
       → UseRules past (count_in l 1) (count_in l 2) (time_in Up l 3) (time_in Up l 4) K p
       → Stating (past_after past (Use K p)) (n + 1) a.rest no_alpha → Stating past n s no_alpha
   unfolding past_after
-  use-states {l} {K = K} {p} a f r x =
+  use_states {l} {K = K} {p} a f r x =
       let line = line_of "use" (fields_from 4 0 (others l)) in
-      let longest = time-in (others_alone l 2) Up r.longest in
-      let total = time-in (others_alone l 3) Up r.total in
+      let longest = time_in_lem (others_alone l 2) Up r.longest in
+      let total = time_in_lem (others_alone l 3) Up r.total in
       let u : UseFigures = record { K = K.0; N = p.requests; c = time_of longest p.longest; CT = time_of total p.total } in
       let e : n + 1 + (0 + length x.uses + line_count x.tasks) ≡ n + (0 + length (u ∷ x.uses) + line_count x.tasks) = omega arith in
       record {
@@ -170,7 +170,7 @@ module _ (past : Past) (n : ℕ) {s : List ℕ} (m : past.tasks ≤ max_tasks) w
         text = a.text ∙ word_text_lem a.rest (form_line "use" 4 l a.clean f) ∙ rw (no_own x, append_assoc line x.first (x.second ++ x.left));
         states_alpha = no_alpha_line;
         states_uses =
-            by_use_line {u = u} (record { resource = count-in (others_alone l 0) r.resource; requests = count-in (others_alone l 1) r.requests; longest = longest.states; total = total.states })
+            by_use_line {u = u} (record { resource = count_in_lem (others_alone l 0) r.resource; requests = count_in_lem (others_alone l 1) r.requests; longest = longest.states; total = total.states })
             x.states_uses;
         states_tasks = x.states_tasks;
         good_alpha = GoodAlpha.not_given;
@@ -183,7 +183,7 @@ module _ (past : Past) (n : ℕ) {s : List ℕ} (m : past.tasks ≤ max_tasks) w
 -- after a task
 pub states_to : (ls : List (List ℕ)) (s : List ℕ) (past : Past) (n : ℕ) → lines s ≡ ls → 1 < n → 0 < past.tasks → past.tasks ≤ max_tasks → StatingAny past n s
 unfolding past_after
-states_to [] s past n e h some m = any (stating-none past n m (at_end (no_line_of s e)))
+states_to [] s past n e h some m = any (stating_none past n m (at_end (no_line_of s e)))
 states_to (l ∷ ls) s past n e h some m = go (line_says past n l) refl (line_is past n l) (λ past j k. states_to ls a.rest past (n + 1) a.left (omega arith) j k)
   where
     a : Start s l ls
@@ -192,12 +192,12 @@ states_to (l ∷ ls) s past n e h some m = go (line_says past n l) refl (line_is
     go : (x : Said) → line_says past n l ≡ x → Line past n l x → ((past : Past) → 0 < past.tasks → past.tasks ≤ max_tasks → StatingAny past (n + 1) a.rest) → StatingAny past n s
     go _ d (is_cpus f e r) ih = absurd (omega arith)
     go _ d (is_group f h z r) ih = absurd (omega arith)
-    go _ d (is_task {C = C} f e r) ih = any (task-states past n m a f r (ih (after_task past C) (omega arith) (omega (arith, r.room))))
+    go _ d (is_task {C = C} f e r) ih = any (task_states past n m a f r (ih (after_task past C) (omega arith) (omega (arith, r.room))))
     go _ d (is_alpha {A} f e r) ih =
         record {
           alpha = alpha_of A;
-          stating = alpha-states past n m a f r (without refl (ih (past_after past (Alpha A)) some m));
+          stating = alpha_states past n m a f r (without refl (ih (past_after past (Alpha A)) some m));
           none = λ q. absurd (true≢false (sym e ∙ q));
         }
-    go _ d (is_use {K} {p} f e r) ih = any (use-states past n m a f r (without refl (ih (past_after past (Use K p)) some m)))
-    go _ d (is_not r) ih = any (stating-none past n m (at_line l a.rest r a.text a.clean d))
+    go _ d (is_use {K} {p} f e r) ih = any (use_states past n m a f r (without refl (ih (past_after past (Use K p)) some m)))
+    go _ d (is_not r) ih = any (stating_none past n m (at_line l a.rest r a.text a.clean d))

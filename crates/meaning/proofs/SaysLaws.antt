@@ -23,7 +23,7 @@ use Rattle.line.specs.Fields.{form}
 use Rattle.line.specs.Line.{cpus_line, group_line, task_line, alpha_line, use_line, line_says}
 use Rattle.line.specs.Stated.{IsLine, StatesGroup, StatesTask, UseFigures, StatesUse, held_pair}
 use Rattle.line.proofs.LineForm.{line_fields, line_form, form_other}
-use Rattle.line.proofs.StatedLaws.{cpus_word, group_word, task_word, alpha_word, use_word, count-stated, time-stated}
+use Rattle.line.proofs.StatedLaws.{cpus_word, group_word, task_word, alpha_word, use_word, count_stated, time_stated}
 use Rattle.line.proofs.LineRules.{CpusRules, GroupRules, TaskRules, AlphaRules, UseRules}
 
 cpus_said : {f : Field} {M : ℕ} (n : ℕ) → CpusRules f M → cpus_line n f ≡ Cpus M
@@ -59,22 +59,22 @@ use_said {past} {K = K} {p} n r =
     )
 
 module _ (past : Past) (n : ℕ) (s : List ℕ) where
-  pub says-cpus : {m : List ℕ} {M : ℕ} → IsLine "cpus" (m ∷ []) s → n ≡ 1 → StatesCount m M → 1 ≤ M → M ≤ max_cpus → line_says past n s ≡ Cpus M
+  pub says_cpus : {m : List ℕ} {M : ℕ} → IsLine "cpus" (m ∷ []) s → n ≡ 1 → StatesCount m M → 1 ≤ M → M ≤ max_cpus → line_says past n s ≡ Cpus M
   unfolding line_says
-  says-cpus {M = M} l e m a b =
+  says_cpus {M = M} l e m a b =
       let f : form (bytes "cpus") 2 s ≡ true = line_form cpus_word l in
-      rw (f, e, (line_fields cpus_word l).1) (cpus_said 1 (record { field = count-stated m; least = a; most = b }))
+      rw (f, e, (line_fields cpus_word l).1) (cpus_said 1 (record { field = count_stated m; least = a; most = b }))
 
-  pub says-group : {g k : List ℕ} {G K : ℕ} → IsLine "group" (g ∷ k ∷ []) s → 1 < n → past.tasks ≡ 0 → StatesGroup g k G K → 1 ≤ G → G ≤ max_group
+  pub says_group : {g k : List ℕ} {G K : ℕ} → IsLine "group" (g ∷ k ∷ []) s → 1 < n → past.tasks ≡ 0 → StatesGroup g k G K → 1 ≤ G → G ≤ max_group
       → past.group.0 < K → K ≤ max_resources → line_says past n s ≡ Group G (record { 0 = K })
   unfolding line_says
-  says-group l h e x a b rising most =
+  says_group l h e x a b rising most =
       let f : form (bytes "group") 3 s ≡ true = line_form group_word l in
       rw (form_other (bytes "group") (bytes "cpus") 3 2 s f refl, f, lt-ltb 1 n h, eq-eqb past.tasks 0 e, (line_fields group_word l).1)
       (group_said n
       (record {
-        group = count-stated x.group;
-        resource = count-stated x.resource;
+        group = count_stated x.group;
+        resource = count_stated x.resource;
         group_least = a;
         group_most = b;
         least = omega arith;
@@ -82,36 +82,36 @@ module _ (past : Past) (n : ℕ) (s : List ℕ) where
         rising = rising;
       }))
 
-  pub says-task : {t c d : List ℕ} {T C D : Time} → IsLine "task" (t ∷ c ∷ d ∷ []) s → 1 < n → StatesTask t c d T C D → past.tasks < max_tasks
+  pub says_task : {t c d : List ℕ} {T C D : Time} → IsLine "task" (t ∷ c ∷ d ∷ []) s → 1 < n → StatesTask t c d T C D → past.tasks < max_tasks
       → GoodTimes T.held C.held D.held → line_says past n s ≡ TaskLine T.held C.held D.held
   unfolding line_says
-  says-task l h x room g =
+  says_task l h x room g =
       let f : form (bytes "task") 4 s ≡ true = line_form task_word l in
       rw (form_other (bytes "task") (bytes "cpus") 4 2 s f refl, form_other (bytes "task") (bytes "group") 4 3 s f refl, f, lt-ltb 1 n h, (line_fields task_word l).1)
-      (task_said n (record { period = time-stated x.period; run = time-stated x.run; deadline = time-stated x.deadline; room = room; times = g }))
+      (task_said n (record { period = time_stated x.period; run = time_stated x.run; deadline = time_stated x.deadline; room = room; times = g }))
 
-  pub says-alpha : {a : List ℕ} {A : ℕ} → IsLine "alpha" (a ∷ []) s → past.fresh ≡ true → StatesCount a A → 1 ≤ A → A ≤ max_alpha → may_follow past.alpha A ≡ true
+  pub says_alpha : {a : List ℕ} {A : ℕ} → IsLine "alpha" (a ∷ []) s → past.fresh ≡ true → StatesCount a A → 1 ≤ A → A ≤ max_alpha → may_follow past.alpha A ≡ true
       → line_says past n s ≡ Alpha A
   unfolding line_says
-  says-alpha l e m a b c =
+  says_alpha l e m a b c =
       let f : form (bytes "alpha") 2 s ≡ true = line_form alpha_word l in
       let o = line_fields alpha_word l in
       let g : form (bytes "cpus") 2 s ≡ false = rw (o.0, and-false) in
       rw (g, form_other (bytes "alpha") (bytes "group") 2 3 s f refl, form_other (bytes "alpha") (bytes "task") 2 4 s f refl, f, e, o.1)
-      (alpha_said n (record { field = count-stated m; least = a; most = b; follows = c }))
+      (alpha_said n (record { field = count_stated m; least = a; most = b; follows = c }))
 
-  pub says-use : {k r c ct : List ℕ} {u : UseFigures} → IsLine "use" (k ∷ r ∷ c ∷ ct ∷ []) s → 0 < past.tasks → StatesUse k r c ct u → u.K ≤ max_resources
+  pub says_use : {k r c ct : List ℕ} {u : UseFigures} → IsLine "use" (k ∷ r ∷ c ∷ ct ∷ []) s → 0 < past.tasks → StatesUse k r c ct u → u.K ≤ max_resources
       → past.last.0 < u.K → GoodPair (held_pair u) → past.sum + u.CT.held ≤ past.run → line_says past n s ≡ Use (record { 0 = u.K }) (held_pair u)
   unfolding line_says
-  says-use l h x most rising g fits =
+  says_use l h x most rising g fits =
       let f : form (bytes "use") 5 s ≡ true = line_form use_word l in
       rw (form_other (bytes "use") (bytes "cpus") 5 2 s f refl, form_other (bytes "use") (bytes "group") 5 3 s f refl, form_other (bytes "use") (bytes "task") 5 4 s f refl, form_other (bytes "use") (bytes "alpha") 5 2 s f refl, f, lt-ltb 0 past.tasks h, (line_fields use_word l).1)
       (use_said n
       (record {
-        resource = count-stated x.resource;
-        requests = count-stated x.requests;
-        longest = time-stated x.longest;
-        total = time-stated x.total;
+        resource = count_stated x.resource;
+        requests = count_stated x.requests;
+        longest = time_stated x.longest;
+        total = time_stated x.total;
         least = omega arith;
         most = most;
         rising = rising;

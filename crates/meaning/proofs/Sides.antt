@@ -58,22 +58,22 @@ task_for_lem (x ∷ xs) zero h = refl
 task_for_lem (x ∷ xs) (suc i) h = task_for_lem xs i (omega arith)
 
 module _ (f : Figures) (few : length f.tasks ≤ max_tasks) (i : ℕ) (h : i < length f.tasks) where
-  task-held : task_at (table_of f) i ≡ task_of (task_figures f i)
+  task_held : task_at (table_of f) i ≡ task_of (task_figures f i)
   unfolding table_of
-  task-held = row_at max_tasks i (task_for f.tasks) no_task (omega arith) ∙ task_for_lem f.tasks i h
+  task_held = row_at max_tasks i (task_for f.tasks) no_task (omega arith) ∙ task_for_lem f.tasks i h
 
   pair_held : (k : ℕ) → k < max_resources → pair_of (task_at (table_of f) i) k ≡ held_pair (use_for (task_figures f i).uses k)
   unfolding task_of
   pair_held k l =
-      ap (λ (x : Task). pair_of x k) task-held ∙ row_at max_resources k (pair_for (task_figures f i).uses) unused_pair l
+      ap (λ (x : Task). pair_of x k) task_held ∙ row_at max_resources k (pair_for (task_figures f i).uses) unused_pair l
 
 on_their_sides : {s : List ℕ} (f : Figures) → StatesFigures s f → length f.tasks ≤ max_tasks → OnTheirSides (table_of f) f
 unfolding table_of task_of
 on_their_sides f states few =
     record {
-      T = λ i h. rw (task-held f few i h) (figures_sides states i h).T;
-      C = λ i h. rw (task-held f few i h) (figures_sides states i h).C;
-      D = λ i h. rw (task-held f few i h) (figures_sides states i h).D;
+      T = λ i h. rw (task_held f few i h) (figures_sides states i h).T;
+      C = λ i h. rw (task_held f few i h) (figures_sides states i h).C;
+      D = λ i h. rw (task_held f few i h) (figures_sides states i h).D;
       c = λ i k h l. rw (pair_held f few i h k l) ((figures_sides states i h).uses k).c;
       CT = λ i k h l. rw (pair_held f few i h k l) ((figures_sides states i h).uses k).CT;
     }

@@ -61,13 +61,13 @@ open_end (one_byte {c = b} n no_byte) h c = ne_eqb b 10 n
 open_end (one_byte {c = b} n (one_byte m r)) h c = open_end (one_byte m r) (omega arith) (eqb b 10)
 
 module _ (rest : List ℕ) where
-  pub line-split : {l : List ℕ} → Without 10 l → lines (l ++ (10 ∷ rest)) ≡ l ∷ lines rest
-  line-split no_byte = refl
-  line-split (one_byte {c} n r) = rw (ne_eqb c 10 n, line-split r)
+  pub line_split : {l : List ℕ} → Without 10 l → lines (l ++ (10 ∷ rest)) ≡ l ∷ lines rest
+  line_split no_byte = refl
+  line_split (one_byte {c} n r) = rw (ne_eqb c 10 n, line_split r)
 
-  pub line-shut : {l : List ℕ} → Without 10 l → (c : Bool) → ends_in_LF c (l ++ (10 ∷ rest)) ≡ ends_in_LF true rest
-  line-shut no_byte c = refl
-  line-shut (one_byte {c = b} n r) c = line-shut r (eqb b 10)
+  pub line_shut : {l : List ℕ} → Without 10 l → (c : Bool) → ends_in_LF c (l ++ (10 ∷ rest)) ≡ ends_in_LF true rest
+  line_shut no_byte c = refl
+  line_shut (one_byte {c = b} n r) c = line_shut r (eqb b 10)
 
 -- ---- the line of a word and fields
 

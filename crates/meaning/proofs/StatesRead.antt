@@ -20,13 +20,13 @@ use Rattle.line.specs.declared.Said.{Said}
 use Rattle.line.specs.declared.Said.TheVariants.{Group, Task as TaskLine, Alpha, Use}
 use Rattle.line.specs.Line.{line_says}
 use Rattle.line.specs.Stated.{IsField, AreFields, none, more, IsLine, StatesGroup, StatesTask, StatesUse, UseFigures, held_pair}
-use Rattle.line.proofs.StatedLaws.{count-field, time-field, group_word, task_word, alpha_word, use_word}
+use Rattle.line.proofs.StatedLaws.{count_field_lem, time_field_lem, group_word, task_word, alpha_word, use_word}
 use Rattle.listing.specs.Lines.{lines, ends_in_LF}
 use Rattle.listing.specs.Read.{no_lines, after_task, after_group, past_after, table_after, on_said, read_lines}
 use Rattle.meaning.specs.Figures.{AlphaFigure, no_alpha, alpha_of, TaskFigures, GroupFigures, Figures, StatesGroups, by_group_line, StatesAlpha, no_alpha_line, by_alpha_line, StatesUses, by_use_line, StatesTasks, by_task_line, GoodGroups, GoodUses, GoodAlpha, last_with, GoodTasks, alpha_lines, alphas_of}
 use Rattle.meaning.specs.Refusals.{last_group, last_task, last_k, sum_CT, last_alpha_of, left_of, left_after, left_by, line_count}
-use Rattle.meaning.proofs.SplitLaws.{line-split, line-shut, begun}
-use Rattle.meaning.proofs.SaysLaws.{says-group, says-task, says-alpha, says-use}
+use Rattle.meaning.proofs.SplitLaws.{line_split, line_shut, begun}
+use Rattle.meaning.proofs.SaysLaws.{says_group, says_task, says_alpha, says_use}
 use Rattle.meaning.proofs.TableLaws.{store_groups, store_uses, store_alpha, store_tasks}
 
 abbrev pub read_text : Table → Past → ℕ → List ℕ → Reading
@@ -39,7 +39,7 @@ pub line_read : (word : String) {ws : List (List ℕ)} (rest : List ℕ) (t : Ta
 unfolding read_lines
 line_read word rest t past n x a b says =
     let r = begun word rest a b in
-    rw (r.text, line-split rest r.clean, line-shut rest r.clean true, says r.l r.line)
+    rw (r.text, line_split rest r.clean, line_shut rest r.clean true, says r.l r.line)
 
 -- ---- what groups, an alpha, uses and tasks leave, after what those before them left
 
@@ -117,13 +117,13 @@ past_all f = ap (λ (past : Past). past_tasks past f.tasks) (groups_left 0 f.gro
 
 -- the fields of a line that states figures
 pub group_fields : {g k : List ℕ} {G K : ℕ} → StatesGroup g k G K → AreFields (g ∷ k ∷ [])
-group_fields s = more (count-field s.group) (more (count-field s.resource) none)
+group_fields s = more (count_field_lem s.group) (more (count_field_lem s.resource) none)
 
 pub task_fields : {t c d : List ℕ} {x y z : Time} → StatesTask t c d x y z → AreFields (t ∷ c ∷ d ∷ [])
-task_fields s = more (time-field s.period) (more (time-field s.run) (more (time-field s.deadline) none))
+task_fields s = more (time_field_lem s.period) (more (time_field_lem s.run) (more (time_field_lem s.deadline) none))
 
 pub use_fields : {k n c ct : List ℕ} {u : UseFigures} → StatesUse k n c ct u → AreFields (k ∷ n ∷ c ∷ ct ∷ [])
-use_fields s = more (count-field s.resource) (more (count-field s.requests) (more (time-field s.longest) (more (time-field s.total) none)))
+use_fields s = more (count_field_lem s.resource) (more (count_field_lem s.requests) (more (time_field_lem s.longest) (more (time_field_lem s.total) none)))
 
 -- the groups, and then what follows them
 pub groups_read : {s : List ℕ} {xs : List GroupFigures} (rest : List ℕ) (t : Table) (past : Past) (n : ℕ)
@@ -135,7 +135,7 @@ groups_read rest t past n (by_group_line {g} {k} {rest = z} {x} {xs} a r) (GoodG
     let said = Group x.G (record { 0 = x.K }) in
     let m : n + suc (length xs) ≡ n + 1 + length xs = omega arith in
     ap (read_text t past n) (append_assoc (line_of "group" (g ∷ k ∷ [])) z rest)
-    ∙ line_read "group" (z ++ rest) t past n said group_word (group_fields a) (λ l w. says-group past n l w h e a i j b c)
+    ∙ line_read "group" (z ++ rest) t past n said group_word (group_fields a) (λ l w. says_group past n l w h e a i j b c)
     ∙ groups_read rest (table_after t past.tasks said) (past_after past said) (n + 1) r q (omega arith) e
     ∙ rw m
 
@@ -144,8 +144,8 @@ alpha_read : {s : List ℕ} {a : AlphaFigure} (rest : List ℕ) (t : Table) (pas
     → read_text t past n (s ++ rest) ≡ read_text (store_alpha t past.tasks a) (past_alpha past a) (n + alpha_lines a) rest
 alpha_read rest t past n no_alpha_line GoodAlpha.not_given e = rw (add-zero n)
 alpha_read rest t past n (by_alpha_line {A = A} c) (GoodAlpha.given least most follows) e =
-    line_read "alpha" rest t past n (Alpha A) alpha_word (more (count-field c) none)
-    (λ l w. says-alpha past n l w e c least most ((may_follow_is past.alpha A).1 follows))
+    line_read "alpha" rest t past n (Alpha A) alpha_word (more (count_field_lem c) none)
+    (λ l w. says_alpha past n l w e c least most ((may_follow_is past.alpha A).1 follows))
 
 -- the uses of the last task, and then what follows them
 uses_read : {s : List ℕ} {us : List UseFigures} (rest : List ℕ) (t : Table) (past : Past) (n : ℕ)
@@ -157,7 +157,7 @@ uses_read rest t past n (by_use_line {k} {n = v} {c} {ct} {rest = z} {u = f} {us
     let said = Use (record { 0 = f.K }) (held_pair f) in
     let e : n + suc (length us) ≡ n + 1 + length us = omega arith in
     ap (read_text t past n) (append_assoc (line_of "use" (k ∷ v ∷ c ∷ ct ∷ [])) z rest)
-    ∙ line_read "use" (z ++ rest) t past n said use_word (use_fields a) (λ l w. says-use past n l w h a y x g i)
+    ∙ line_read "use" (z ++ rest) t past n said use_word (use_fields a) (λ l w. says_use past n l w h a y x g i)
     ∙ uses_read rest (table_after t past.tasks said) (past_after past said) (n + 1) r q h
     ∙ rw e
 
@@ -189,7 +189,7 @@ tasks_read rest t past n (by_task_line {t = w} {c} {d} {alpha = b} {uses = s} {r
     let e : m + length x.uses + line_count xs ≡ n + suc (alpha_lines x.alpha + length x.uses + line_count xs) = omega arith in
     let first = line_of "task" (w ∷ c ∷ d ∷ []) in
     ap (read_text t past n) (append_assoc first (b ++ (s ++ z)) rest ∙ ap (λ (y : List ℕ). first ++ y) (append_assoc b (s ++ z) rest ∙ ap (λ (y : List ℕ). b ++ y) (append_assoc s z rest)))
-    ∙ line_read "task" (b ++ (s ++ (z ++ rest))) t past n said task_word (task_fields a) (λ l w. says-task past n l w h a (omega arith) g.times)
+    ∙ line_read "task" (b ++ (s ++ (z ++ rest))) t past n said task_word (task_fields a) (λ l w. says_task past n l w h a (omega arith) g.times)
     ∙ alpha_read (s ++ (z ++ rest)) line fresh (n + 1) o j refl
     ∙ uses_read (z ++ rest) stored now m p (rw (k.run, k.last, k.sum) g.uses) (rw k.tasks (omega arith))
     ∙ rw (k.tasks, task_left past x)

@@ -88,32 +88,32 @@ abbrev with_pairs : Task → List Pair → Task
 with_pairs x ps = record { period = x.period; run = x.run; deadline = x.deadline; alpha = x.alpha; pairs = ps }
 
 module _ (m : ℕ) (groups : List ℕ) (n i : ℕ) (row : List Task) (h : i < length row) where
-  use-stored : (x : Task) (K : Resource) (p : Pair) → table_after (table m groups n (set row i x)) (i + 1) (Use K p) ≡ table m groups n (set row i (with_pair x (K.0 - 1) p))
+  use_stored : (x : Task) (K : Resource) (p : Pair) → table_after (table m groups n (set row i x)) (i + 1) (Use K p) ≡ table m groups n (set row i (with_pair x (K.0 - 1) p))
   unfolding table_after
-  use-stored x K p =
+  use_stored x K p =
       let e : i + 1 - 1 ≡ i = omega arith in
       rw (e, get_or-set_same row i x no_task h, set-set row i x (with_pair x (K.0 - 1) p))
 
-  uses-stored : (x : Task) (us : List UseFigures) → store_uses (table m groups n (set row i x)) (i + 1) us ≡ table m groups n (set row i (with_pairs x (put_pairs x.pairs us)))
-  uses-stored x [] = refl
-  uses-stored x (u ∷ us) =
-      ap (λ (t : Table). store_uses t (i + 1) us) (use-stored x (record { 0 = u.K }) (held_pair u)) ∙ uses-stored (with_pair x (u.K - 1) (held_pair u)) us
+  uses_stored : (x : Task) (us : List UseFigures) → store_uses (table m groups n (set row i x)) (i + 1) us ≡ table m groups n (set row i (with_pairs x (put_pairs x.pairs us)))
+  uses_stored x [] = refl
+  uses_stored x (u ∷ us) =
+      ap (λ (t : Table). store_uses t (i + 1) us) (use_stored x (record { 0 = u.K }) (held_pair u)) ∙ uses_stored (with_pair x (u.K - 1) (held_pair u)) us
 
-  alpha-stored : (T C D : ℕ) (a : AlphaFigure)
+  alpha_stored : (T C D : ℕ) (a : AlphaFigure)
       → store_alpha (table m groups n (set row i (new_task T C D))) (i + 1) a ≡ table m groups n (set row i (with_alpha (held_alpha a) (new_task T C D)))
   unfolding table_after new_task
-  alpha-stored T C D no_alpha = refl
-  alpha-stored T C D (alpha_of A) =
+  alpha_stored T C D no_alpha = refl
+  alpha_stored T C D (alpha_of A) =
       let e : i + 1 - 1 ≡ i = omega arith in
       rw (e, get_or-set_same row i (new_task T C D) no_task h, set-set row i (new_task T C D) (with_alpha A (new_task T C D)))
 
-  task-stored : (x : TaskFigures) → GoodTaskFigures x
+  task_stored : (x : TaskFigures) → GoodTaskFigures x
       → store_uses (store_alpha (table m groups n (set row i (new_task x.T.held x.C.held x.D.held))) (i + 1) x.alpha) (i + 1) x.uses ≡ table m groups n (set row i (task_of x))
   unfolding task_of new_task
-  task-stored x g =
+  task_stored x g =
       let y = with_alpha (held_alpha x.alpha) (new_task x.T.held x.C.held x.D.held) in
-      ap (λ (t : Table). store_uses t (i + 1) x.uses) (alpha-stored x.T.held x.C.held x.D.held x.alpha)
-      ∙ uses-stored y x.uses ∙ rw (pairs_stored g.uses)
+      ap (λ (t : Table). store_uses t (i + 1) x.uses) (alpha_stored x.T.held x.C.held x.D.held x.alpha)
+      ∙ uses_stored y x.uses ∙ rw (pairs_stored g.uses)
 
 rows_stored : (m : ℕ) (groups : List ℕ) (i : ℕ) (row : List Task) {last : ℕ} {xs : List TaskFigures} → GoodTasks last xs → i + length xs ≤ length row
     → store_tasks (table m groups i row) i xs ≡ table m groups (i + length xs) (put_tasks row i xs)
@@ -121,7 +121,7 @@ unfolding table_after
 rows_stored m groups i row GoodTasks.no_task_told l = rw add-zero
 rows_stored m groups i row (GoodTasks.one_task {x = x} {xs} g a r) l =
     let e : i + suc (length xs) ≡ i + 1 + length xs = omega arith in
-    ap (λ (t : Table). store_tasks t (i + 1) xs) (task-stored m groups (i + 1) i row (omega arith) x g)
+    ap (λ (t : Table). store_tasks t (i + 1) xs) (task_stored m groups (i + 1) i row (omega arith) x g)
     ∙ rw e (rows_stored m groups (i + 1) (set row i (task_of x)) r (omega (arith, length-set row i (task_of x))))
 
 pub stored : (M : ℕ) {last : ℕ} {gs : List GroupFigures} {xs : List TaskFigures} → GoodGroups 0 gs → GoodTasks last xs → length xs ≤ max_tasks

@@ -14,7 +14,7 @@ use borrow.Author.Tests.{lt-ltb, le-ltb, eq-eqb, ne_eqb}
 use Rattle.basics.specs.Choice.{pick, only}
 use Rattle.basics.specs.Over.{sum_to, join_to}
 use Rattle.basics.proofs.SumLaws.{sum_rises}
-use Rattle.basics.proofs.JoinLaws.{join-from}
+use Rattle.basics.proofs.JoinLaws.{join_from}
 use Rattle.table.specs.declared.Task.{Task}
 use Rattle.table.specs.declared.Table.{Table}
 use Rattle.table.specs.Limits.{max_tasks, max_resources, max_alpha}
@@ -22,7 +22,7 @@ use Rattle.table.specs.Empty.{unused_pair, empty_task}
 use Rattle.table.specs.At.{task_at, alpha_at, group_at, pair_of, total_of}
 use Rattle.table.specs.Rules.{alphas_to}
 use Rattle.table.proofs.RuleFacts.{all_or_none_is}
-use Rattle.table.proofs.AlphaLaws.{holds_unless, some-only-is, all_or_none_reads}
+use Rattle.table.proofs.AlphaLaws.{holds_unless, some_only_is, all_or_none_reads}
 use Rattle.table.specs.Accepted.{GoodPair, GoodTask, Accepted}
 use Rattle.field.specs.declared.Rounding.TheVariants.{Down, Up}
 use Rattle.line.specs.Stated.{UseFigures}
@@ -31,9 +31,9 @@ use Rattle.meaning.specs.Figures.{AlphaFigure, no_alpha, alpha_of, TaskFigures, 
 use Rattle.basics.specs.Text.{line_of}
 use Rattle.put.specs.Text.{count_text}
 use Rattle.writing.specs.Write.{use_text, pair_text, times_text, alpha_text, own_text, task_text, member_text, head_text, text_of}
-use Rattle.writing.proofs.WriteLaws.{alpha-none, alpha-some}
+use Rattle.writing.proofs.WriteLaws.{alpha_none, alpha_some}
 use Rattle.table.specs.Cleared.{cleared_task, cleared}
-use Rattle.basics.proofs.RowLaws.{row-eq}
+use Rattle.basics.proofs.RowLaws.{row_eq}
 use Rattle.meaning.proofs.TextGroups.{groups_from}
 
 -- ---- a task's uses
@@ -48,9 +48,9 @@ record UsesFrom (x : Task) (k : ℕ) (s : List ℕ) : Type 0 where
 
 module _ {x : Task} {k : ℕ} {s : List ℕ} (r : UsesFrom x (suc k) s) where
   -- a pair that is not in use is not written
-  skip-use : pair_of x k ≡ unused_pair → UsesFrom x k s
+  skip_use : pair_of x k ≡ unused_pair → UsesFrom x k s
   unfolding sum_to
-  skip-use e =
+  skip_use e =
       record {
         uses = r.uses;
         states = r.states;
@@ -63,9 +63,9 @@ module _ {x : Task} {k : ℕ} {s : List ℕ} (r : UsesFrom x (suc k) s) where
       go j a b (yes q) = r.low j (omega arith) ∙ sym (rw q at e)
       go j a b (no q) = r.at j (omega arith) b
 
-  write-use : GoodTask x → k < max_resources → GoodPair (pair_of x k) → UsesFrom x k (use_text (suc k) (pair_of x k) ++ s)
+  write_use : GoodTask x → k < max_resources → GoodPair (pair_of x k) → UsesFrom x k (use_text (suc k) (pair_of x k) ++ s)
   unfolding use_text sum_to
-  write-use g h p =
+  write_use g h p =
       record {
         uses = u ∷ r.uses;
         states = StatesUses.by_use_line {u = u} (record { resource = count_text_lem _ (omega arith); requests = count_text_lem _ (omega arith); longest = time_text_lem Up _ (omega arith); total = time_text_lem Up _ (omega arith) }) r.states;
@@ -86,12 +86,12 @@ module _ {x : Task} {k : ℕ} {s : List ℕ} (r : UsesFrom x (suc k) s) where
 uses_from : (x : Task) → GoodTask x → UsesFrom x 0 (join_to max_resources (pair_text x))
 unfolding pair_text
 uses_from x g =
-    join-from (UsesFrom x) max_resources (pair_text x) (λ k s h r. go k s h r (g.pair k h))
+    join_from (UsesFrom x) max_resources (pair_text x) (λ k s h r. go k s h r (g.pair k h))
     (record { uses = []; states = StatesUses.no_use; good = λ last sum a b. GoodUses.no_use; low = λ j h. refl; at = λ j a b. absurd (omega arith) })
   where
     go : (k : ℕ) (s : List ℕ) → k < max_resources → UsesFrom x (suc k) s → (pair_of x k ≡ unused_pair) ⊎ GoodPair (pair_of x k) → UsesFrom x k (pair_text x k ++ s)
-    go k s h r (inl e) = rw e (skip-use r e)
-    go k s h r (inr p) = rw (lt-ltb 0 (pair_of x k).requests p.requests_least) (write-use r g h p)
+    go k s h r (inl e) = rw e (skip_use r e)
+    go k s h r (inr p) = rw (lt-ltb 0 (pair_of x k).requests p.requests_least) (write_use r g h p)
 
 -- ---- a task's alpha
 
@@ -111,8 +111,8 @@ figure_lines (suc A) = rw (lt-ltb 0 (suc A) (omega arith))
 
 figure_states : (A : ℕ) → A ≤ max_alpha → StatesAlpha (alpha_text A) (figure_of A)
 unfolding figure_of
-figure_states zero h = rw (alpha-none 0 refl) no_alpha_line
-figure_states (suc A) h = rw (alpha-some (suc A) (λ e. omega arith)) (by_alpha_line (count_text_lem (suc A) (omega arith)))
+figure_states zero h = rw (alpha_none 0 refl) no_alpha_line
+figure_states (suc A) h = rw (alpha_some (suc A) (λ e. omega arith)) (by_alpha_line (count_text_lem (suc A) (omega arith)))
 
 figure_good : (last A : ℕ) → A ≤ max_alpha → (last ≡ 0) ⊎ (A ≤ last) → GoodAlpha last (figure_of A)
 unfolding figure_of
@@ -164,12 +164,12 @@ task_from {t} {k} {s} r h g f =
     at : (i j : ℕ) → j ≡ k + i → task_for (y ∷ r.tasks) i ≡ pick (ltb j t.n) (cleared_task (task_at t j)) empty_task
     at zero j e =
         let q : j ≡ k = omega arith in
-        rw (q, lt-ltb k t.n h, figure_held x.alpha, row-eq max_resources (pair_for w.uses) (pair_of x) (λ i l. w.at i (omega arith) l))
+        rw (q, lt-ltb k t.n h, figure_held x.alpha, row_eq max_resources (pair_for w.uses) (pair_of x) (λ i l. w.at i (omega arith) l))
     at (suc i) j e = r.at i j (omega arith)
 
 tasks_from : (t : Table) → Accepted t → TasksFrom t 0 (join_to t.n (λ i. task_text (task_at t i)))
 tasks_from t a =
-    join-from (TasksFrom t) t.n (λ i. task_text (task_at t i)) (λ k s h r. task_from r h (a.task k h) (a.never_rises k))
+    join_from (TasksFrom t) t.n (λ i. task_text (task_at t i)) (λ k s h r. task_from r h (a.task k h) (a.never_rises k))
     (record {
       tasks = [];
       states = StatesTasks.no_task_told;
@@ -188,10 +188,10 @@ text_states t a =
     let h = groups_from t a in
     let e : t.n ≡ length r.tasks = omega arith in
     let b : alphas_to t t.n ≡ alphas_of r.tasks = omega (arith, r.alphas) in
-    let c = (all_or_none_is (alphas_to t t.n) t.n).0 ((holds_unless _ (some-only-is t)).1 ((all_or_none_reads t).1 a.all_or_none_reads)) in (
+    let c = (all_or_none_is (alphas_to t t.n) t.n).0 ((holds_unless _ (some_only_is t)).1 ((all_or_none_reads t).1 a.all_or_none_reads)) in (
       record { M = t.cpus; groups = h.groups; tasks = r.tasks },
       rw (append_assoc (line_of "cpus" (count_text t.cpus ∷ [])) (join_to max_resources (member_text t.groups)) (join_to t.n (λ i. task_text (task_at t i))))
           (by_cpus_line (count_text_lem t.cpus (omega arith)) h.states r.states),
       record { so_far = record { cpus_least = a.cpus_least; cpus_most = a.cpus_most; groups = h.good 0 (omega arith); tasks_most = omega arith; tasks = r.good 0 (λ h. inl refl) }; tasks_least = omega arith; alphas = rw (← e, ← b) c },
-      rw (← row-eq max_tasks (task_for r.tasks) _ (λ i h. r.at i i (omega arith)), ← row-eq max_resources (group_for h.groups) (group_at t) (λ k l. h.at k (omega arith) l), ← e),
+      rw (← row_eq max_tasks (task_for r.tasks) _ (λ i h. r.at i i (omega arith)), ← row_eq max_resources (group_for h.groups) (group_at t) (λ k l. h.at k (omega arith) l), ← e),
     )

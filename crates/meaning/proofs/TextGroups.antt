@@ -7,7 +7,7 @@ use native.Mathlib.Omega.{arith}
 use native.Mathlib.Decide.{ℕ_discrete}
 use borrow.Author.Tests.{lt-ltb, eq-eqb, ne_eqb}
 use Rattle.basics.specs.Over.{join_to}
-use Rattle.basics.proofs.JoinLaws.{join-from}
+use Rattle.basics.proofs.JoinLaws.{join_from}
 use Rattle.table.specs.declared.Table.{Table}
 use Rattle.table.specs.Limits.{max_resources}
 use Rattle.table.specs.At.{group_at}
@@ -26,8 +26,8 @@ pub record GroupsFrom (t : Table) (k : ℕ) (s : List ℕ) : Type 0 where
 
 module _ {t : Table} {k : ℕ} {s : List ℕ} (r : GroupsFrom t (suc k) s) where
   -- a resource without a group is not written
-  skip-group : group_at t k ≡ 0 → GroupsFrom t k s
-  skip-group e =
+  skip_group : group_at t k ≡ 0 → GroupsFrom t k s
+  skip_group e =
       record {
         groups = r.groups;
         states = r.states;
@@ -40,9 +40,9 @@ module _ {t : Table} {k : ℕ} {s : List ℕ} (r : GroupsFrom t (suc k) s) where
       go j a b (yes q) = r.low j (omega arith) ∙ sym (rw q at e)
       go j a b (no q) = r.at j (omega arith) b
 
-  write-group : Accepted t → k < max_resources → 1 ≤ group_at t k → GroupsFrom t k (group_text (group_at t k) (suc k) ++ s)
+  write_group : Accepted t → k < max_resources → 1 ≤ group_at t k → GroupsFrom t k (group_text (group_at t k) (suc k) ++ s)
   unfolding group_text
-  write-group g h l =
+  write_group g h l =
       let m = g.groups_most k h in
       record {
         groups = x ∷ r.groups;
@@ -62,9 +62,9 @@ module _ {t : Table} {k : ℕ} {s : List ℕ} (r : GroupsFrom t (suc k) s) where
 pub groups_from : (t : Table) → Accepted t → GroupsFrom t 0 (join_to max_resources (member_text t.groups))
 unfolding member_text
 groups_from t g =
-    join-from (GroupsFrom t) max_resources (member_text t.groups) (λ k s h r. go k s h r (ℕ_discrete (group_at t k) 0))
+    join_from (GroupsFrom t) max_resources (member_text t.groups) (λ k s h r. go k s h r (ℕ_discrete (group_at t k) 0))
     (record { groups = []; states = StatesGroups.no_group; good = λ last h. GoodGroups.no_group; low = λ j h. refl; at = λ j a b. absurd (omega arith) })
   where
     go : (k : ℕ) (s : List ℕ) → k < max_resources → GroupsFrom t (suc k) s → Dec (group_at t k ≡ 0) → GroupsFrom t k (member_text t.groups k ++ s)
-    go k s h r (yes e) = rw e (skip-group r e)
-    go k s h r (no e) = rw (lt-ltb 0 (group_at t k) (omega arith)) (write-group r g h (omega arith))
+    go k s h r (yes e) = rw e (skip_group r e)
+    go k s h r (no e) = rw (lt-ltb 0 (group_at t k) (omega arith)) (write_group r g h (omega arith))

@@ -19,15 +19,15 @@ use Rattle.line.specs.Fields.{others, form}
 use Rattle.line.specs.Line.{count_in, line_says}
 use Rattle.line.specs.Stated.{Without, none, more, UseFigures}
 use Rattle.line.proofs.WordLaws.{fields_from, form_line}
-use Rattle.line.proofs.StatedLaws.{others_alone, count-in, count-field, cpus_word}
+use Rattle.line.proofs.StatedLaws.{others_alone, count_in_lem, count_field_lem, cpus_word}
 use Rattle.line.proofs.LineRules.{CpusRules, Line, is_cpus, is_group, is_task, is_alpha, is_use, is_not}
 use Rattle.line.proofs.Says.{line_is}
 use Rattle.listing.specs.Lines.{lines, ends_in_LF}
 use Rattle.listing.specs.Read.{no_lines, after_group, past_after, table_after, read_end, read_lines}
 use Rattle.meaning.specs.Figures.{no_alpha, Figures, StatesUses, StatesFigures, by_cpus_line, GoodUses, GoodSoFar, table_of}
 use Rattle.meaning.specs.Refusals.{last_group, left_by, line_count, next_line}
-use Rattle.meaning.proofs.SplitLaws.{Start, start_of, no_line_of, no_lines_lem, line-split, word_text_lem}
-use Rattle.meaning.proofs.SaysLaws.{says-cpus}
+use Rattle.meaning.proofs.SplitLaws.{Start, start_of, no_line_of, no_lines_lem, line_split, word_text_lem}
+use Rattle.meaning.proofs.SaysLaws.{says_cpus}
 use Rattle.meaning.proofs.TableLaws.{stored}
 use Rattle.meaning.proofs.StatesRead.{read_text, line_read, past_groups, groups_left, groups_read, tasks_read, past_after_lem, past_all}
 use Rattle.meaning.proofs.ReadStates.{Stops, at_end, at_line, Stating, no_own}
@@ -57,7 +57,7 @@ cpus_states {l = l} a M f r h =
     stops_later (line ++ (h.first ++ m.second)) m.left g
     (a.text ∙ word_text_lem a.rest (form_line "cpus" 1 l a.clean f)
     ∙ rw (h.text, no_own m, n.0, append_assoc line (h.first ++ m.second) m.left, append_assoc h.first m.second m.left))
-    (by_cpus_line (count-in (others_alone l 0) r.field) h.states m.states_tasks)
+    (by_cpus_line (count_in_lem (others_alone l 0) r.field) h.states m.states_tasks)
     (record { cpus_least = r.least; cpus_most = r.most; groups = h.good; tasks_most = omega (arith, m.few); tasks = m.good_tasks })
     (rw (← past_after_lem _ m.tasks, ← e) (rw (n.1, zero-add (line_count m.tasks)) at m.stops))
 
@@ -91,7 +91,7 @@ figures_read left (by_cpus_line {m} {groups} {rest} {f} a h r) g =
     let y : past.alpha ≡ 0 = rw e in
     let n : 2 + length f.groups + line_count f.tasks ≡ next_line f = omega arith in
     ap (read_text empty_table no_lines 1) (append_assoc line (groups ++ rest) left ∙ ap (λ (y : List ℕ). line ++ y) (append_assoc groups rest left))
-    ∙ line_read "cpus" (groups ++ (rest ++ left)) empty_table no_lines 1 (Cpus f.M) cpus_word (more (count-field a) none) (λ l w. says-cpus no_lines 1 l w refl a g.cpus_least g.cpus_most)
+    ∙ line_read "cpus" (groups ++ (rest ++ left)) empty_table no_lines 1 (Cpus f.M) cpus_word (more (count_field_lem a) none) (λ l w. says_cpus no_lines 1 l w refl a g.cpus_least g.cpus_most)
     ∙ groups_read (rest ++ left) _ no_lines 2 h g.groups (omega arith) refl
     ∙ tasks_read left _ past (2 + length f.groups) r (rw y g.tasks) (omega arith) (omega (arith, g.tasks_most))
     ∙ rw (past_all f, z, n, stored f.M g.groups g.tasks g.tasks_most)
@@ -100,7 +100,7 @@ figures_read left (by_cpus_line {m} {groups} {rest} {f} a h r) g =
 pub stop_line : (t : Table) (past : Past) (n : ℕ) {l : List ℕ} (rest : List ℕ) (r : Refusal) → Without 10 l → line_says past n l ≡ Not r
     → (read_text t past n (l ++ (10 ∷ rest))).answer ≡ Refused r
 unfolding read_lines
-stop_line t past n rest r w e = rw (line-split rest w, e)
+stop_line t past n rest r w e = rw (line_split rest w, e)
 
 pub stop_end : (t : Table) (past : Past) (n : ℕ) {s : List ℕ} → Without 10 s → read_text t past n s ≡ read_end t past n (ends_in_LF true s)
 unfolding read_lines

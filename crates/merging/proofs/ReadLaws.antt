@@ -17,15 +17,15 @@ own_of Fine t = refl
 own_of (Refused r) t = refl
 
 module _ (t : Table) {r : Reading} (e : r ≡ or_table (table_fault t) (merged t)) where
-  pub read-own : r.answer ≡ table_fault t
-  read-own = ap (λ (r : Reading). r.answer) e ∙ own_of (table_fault t) (merged t)
+  pub read_own : r.answer ≡ table_fault t
+  read_own = ap (λ (r : Reading). r.answer) e ∙ own_of (table_fault t) (merged t)
 
   module _ (fine : table_fault t ≡ Fine) where
-    pub read-merged : r.table ≡ merged t
-    read-merged = ap (λ (r : Reading). r.table) e ∙ rw fine
+    pub read_merged : r.table ≡ merged t
+    read_merged = ap (λ (r : Reading). r.table) e ∙ rw fine
 
-    pub read-bounds : InBounds r.table
-    read-bounds = rw read-merged (merged_bounds t fine)
+    pub read_bounds : InBounds r.table
+    read_bounds = rw read_merged (merged_bounds t fine)
 
-    pub read-asks : {i : ℕ} → i < t.n → InBounds r.table × (i < r.table.n)
-    read-asks h = (read-bounds, rw read-merged h)
+    pub read_asks : {i : ℕ} → i < t.n → InBounds r.table × (i < r.table.n)
+    read_asks h = (read_bounds, rw read_merged h)

@@ -1,4 +1,6 @@
 // A table as the analysis reads it, with each group as one resource: request 9/12. The resources are gone through by slot, resource k at k - 1.
+#![tactic(auto)]
+
 ghost use Rattle.std.specs.Prelude.{◌≡◌, ◌+◌, ◌*◌, ◌≤◌, ◌<◌, max};
 ghost use Rattle.table.specs.declared.Checked.TheVariants.{Fine};
 ghost use Rattle.table.specs.Limits.{max_resources, max_time, max_count};

@@ -1,4 +1,6 @@
 // What the programs `report` and `bench` print. What stands in a row for a verdict they say themselves.
+#![tactic(auto)]
+
 ghost use Rattle.std.specs.Prelude.{◌≡◌, ◌++◌, ◌≤◌, length, drop};
 ghost use Rattle.table.specs.Limits.{max_tasks};
 ghost use Rattle.page.specs.Report.{header, max_header, max_page, page_text};
@@ -16,7 +18,7 @@ mod row;
 pub const MAX_PAGE: usize = 37 + Table::MAX_TASKS * 61;
 
 // The word for a verdict.
-#[derive(Drop)]
+#[derive(Clone, Copy)]
 pub enum Word {
     Meets,
     Misses,
@@ -24,25 +26,25 @@ pub enum Word {
 }
 
 // What stands for a bound in a row: its microseconds, or a dash.
-#[derive(Drop)]
+#[derive(Clone, Copy)]
 pub enum Bound {
     Of(u32),
     Dash,
 }
 
 // What stands for a verdict in a row. The program, which takes the verdict apart, says what that is.
-#[derive(Drop)]
+#[derive(Clone, Copy)]
 pub struct Cells(pub Word, pub Bound);
 
 // How many columns a page has: task, verdict, bound and rounds, or the wait besides.
-#[derive(Drop)]
+#[derive(Clone, Copy)]
 pub enum Columns {
     Four,
     Five,
 }
 
 // What stands behind the rounds in a row: nothing, or the wait's microseconds, or a dash.
-#[derive(Drop)]
+#[derive(Clone, Copy)]
 enum Last {
     Nothing,
     Dash,
@@ -50,7 +52,7 @@ enum Last {
 }
 
 // What a page is made from: the refusal that it tells, or a record for each of n tasks, and of a page of five columns whether they have alphas, and what each then waits.
-#[derive(Drop)]
+#[derive(Clone, Copy)]
 pub struct Page {
     pub answer: Checked,
     pub n: usize,
@@ -61,7 +63,7 @@ pub struct Page {
 }
 
 // What a page has to say of waits.
-#[derive(Drop)]
+#[derive(Clone, Copy)]
 struct Column {
     given: bool,
     waits: [u64; Table::MAX_TASKS],

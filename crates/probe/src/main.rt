@@ -1,5 +1,7 @@
 // A test program: hands a raw table of any numbers to one entry point of the library, a listing or an archive to its reader, a time or a count to its writer, or a card to the tool for bad blocks, and prints the answer and all that was lent.
 // docs/PROBE.md describes its input. Its contracts say nothing: it is for comparing, and what it calls is proved elsewhere.
+#![tactic(auto)]
+
 ghost use Rattle.std.specs.Prelude.{◌≤◌, length};
 
 use analysis::{Answer, Record};
@@ -40,7 +42,7 @@ const LIST: usize = 70;
 
 const MENDED: usize = 34_000;
 
-#[derive(Drop)]
+#[derive(Clone, Copy)]
 struct Lent {
     answer: Checked,
     rows: [Record; ROWS],

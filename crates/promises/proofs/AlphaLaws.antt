@@ -10,12 +10,12 @@ use native.Mathlib.Nat.{mul-le-mul_left}
 use lib.ListN.{length, get_or}
 use lib.Seq.{get_or-append-add}
 use Rattle.basics.specs.Over.{row_to}
-use Rattle.basics.proofs.RowLaws.{row-length}
+use Rattle.basics.proofs.RowLaws.{row_length}
 use Rattle.basics.specs.Choice.{pick, only}
 use Rattle.basics.specs.Largest.{sum_of}
 use Rattle.basics.proofs.ChoiceLaws.{only_le}
 use Rattle.basics.proofs.SumLaws.{sum_le, sum_eq}
-use Rattle.basics.proofs.JoinLaws.{join-eq, join-through}
+use Rattle.basics.proofs.JoinLaws.{join_eq, join_through}
 use Rattle.basics.proofs.LargestLaws.{largest_more, largest_all}
 use Rattle.table.specs.declared.Level.{Level}
 use Rattle.table.specs.declared.Task.{Task}
@@ -32,7 +32,7 @@ use Rattle.theory.specs.Merge.{merged_pair, merged_task, grouped_tasks, merged_t
 use Rattle.theory.specs.Tables.{view_of, merged_view}
 use Rattle.waits.specs.Wait.{others_of, others_below, wait_of}
 use Rattle.promises.specs.Reads.{Unchanged}
-use Rattle.promises.proofs.MergedLaws.{AlikeTask, alike-unchanged, slots_equal}
+use Rattle.promises.proofs.MergedLaws.{AlikeTask, alike_unchanged, slots_equal}
 
 -- ---- what does not read alpha
 
@@ -50,8 +50,8 @@ tasks_without t = go (has_group t.groups)
 
     go : (b : Bool) → pick b (grouped_tasks (without_alpha t)) (map (with_alpha 0) t.tasks) ≡ map (with_alpha 0) (pick b (grouped_tasks t) t.tasks)
     go true =
-        sym (join-through (map (with_alpha 0)) refl (map-append (with_alpha 0)) max_tasks (λ i. row i ∷ [])
-        ∙ join-eq max_tasks _ _ (λ i h. ap (λ (x : Task). x ∷ []) (sym (each i (ltb i t.n)))))
+        sym (join_through (map (with_alpha 0)) refl (map-append (with_alpha 0)) max_tasks (λ i. row i ∷ [])
+        ∙ join_eq max_tasks _ _ (λ i h. ap (λ (x : Task). x ∷ []) (sym (each i (ltb i t.n)))))
     go false = refl
 
 view_without : (t : Table) → view_of (without_alpha t) ≡ view_of t
@@ -88,7 +88,7 @@ module _ (a b : Table) (same : SameButAlpha a b) where
     where
       at_end : (f : ℕ → Task) → get_or (row_to max_tasks f) i no_task ≡ no_task
       at_end f =
-          let e : i ≡ length (row_to max_tasks f) + (i - max_tasks) = omega (arith, row-length max_tasks f) in
+          let e : i ≡ length (row_to max_tasks f) + (i - max_tasks) = omega (arith, row_length max_tasks f) in
           (λ j. get_or (sym (append-nil (row_to max_tasks f)) j) (e j) no_task) ∙ get_or-append-add (row_to max_tasks f) [] (i - max_tasks) no_task
 
       none : AlikeTask no_task no_task
@@ -100,19 +100,19 @@ module _ (a b : Table) (same : SameButAlpha a b) where
 
   pub unchanged : (runs : Level → Type 0) → Unchanged (λ l. Unit) runs (merged_view a) (merged_view b)
   unfolding without_alpha
-  unchanged = alike-unchanged a b (sym same.cpus) (sym same.n) alike (slots_equal a b same.groups) past
+  unchanged = alike_unchanged a b (sym same.cpus) (sym same.n) alike (slots_equal a b same.groups) past
 
 -- ---- the wait
 
 module _ (v w : View) (same : Unchanged (λ l. Unit) (λ l. Unit) v w) where
-  uses-same : (l k : ℕ) → l < v.n → k < max_resources → uses w (level l) (resource k) ≡ uses v (level l) (resource k)
-  uses-same l k h m = rw (same.N l k h m tt)
+  uses_same : (l k : ℕ) → l < v.n → k < max_resources → uses w (level l) (resource k) ≡ uses v (level l) (resource k)
+  uses_same l k h m = rw (same.N l k h m tt)
 
   others_same : (i : Level) (k : ℕ) → others_below w i (resource k) ≡ others_below v i (resource k)
   unfolding others_below others_of
   others_same i k =
       rw same.n
-      (join-eq v.n _ _ (λ l h. ap (λ (z : List ℕ). pick (is_above i (level l)) z []) (join-eq max_resources _ _ (λ j m. rw (uses-same l j h m, same.c l j h m tt)))))
+      (join_eq v.n _ _ (λ l h. ap (λ (z : List ℕ). pick (is_above i (level l)) z []) (join_eq max_resources _ _ (λ j m. rw (uses_same l j h m, same.c l j h m tt)))))
 
 -- with no smaller an alpha the wait is no smaller
 pub wait_more : (v : View) (A B : ℕ) (i : Level) → A ≤ B → wait_of v A i ≤ wait_of v B i
@@ -123,7 +123,7 @@ wait_more v A B i h =
 
 pub wait_same : (v w : View) → Unchanged (λ l. Unit) (λ l. Unit) v w → (A i : ℕ) → i < v.n → wait_of w A (level i) ≡ wait_of v A (level i)
 unfolding wait_of
-wait_same v w same A i h = sum_eq max_resources _ _ (λ k m. rw (uses-same v w same i k h m, same.N i k h m tt, others_same v w same (level i) k))
+wait_same v w same A i h = sum_eq max_resources _ _ (λ k m. rw (uses_same v w same i k h m, same.N i k h m tt, others_same v w same (level i) k))
 
 pub of_all : (v : View) (A : ℕ) (i : Level) → ((k : ℕ) → k < max_resources → length (others_below v i (resource k)) ≤ A)
     → wait_of v A i ≡ over_resources (λ k. only (uses v i k) (v.N i k * sum_of (others_below v i k)))

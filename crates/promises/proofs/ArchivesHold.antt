@@ -10,7 +10,7 @@ use Rattle.table.specs.declared.Reading.{Reading}
 use Rattle.table.specs.declared.Checked.TheVariants.{Fine}
 use Rattle.table.specs.At.{NoGroup}
 use Rattle.table.specs.Rules.{table_fault}
-use Rattle.table.proofs.GroupLaws.{no-group-is}
+use Rattle.table.proofs.GroupLaws.{no_group_is}
 use Rattle.table.specs.Answers.{accepted}
 use Rattle.table.specs.Cleared.{cleared}
 use Rattle.listing.specs.Read.{read_listing}
@@ -36,7 +36,7 @@ card_clear a t bytes e = ap (λ (r : Reading). r.table) (sym (reads_back t (pass
 archive_written : (t : Table) (out : List ℕ) → table_fault t ≡ Fine → NoGroup t → block_size * t.n ≤ length out → Writes (archive_of t) out (archiving_answer t (length out)) (archiving t out)
 unfolding archiving_fault archiving_answer archiving
 archive_written t out e z h =
-    let g = (no-group-is t).1 z in
+    let g = (no_group_is t).1 z in
     let r = le-leb (block_size * t.n) (length out) h in
     record { wrote = rw (e, g, r, archive_length t); output = rw (e, g, r) }
 

@@ -62,12 +62,12 @@ module _ {rest run free : ℕ → ℕ → Type 0} (a : Tested rest) (b : Tested 
       ∷ pairs (λ l k. beq (uses w l k) (uses v l k))
       ∷ []
 
-  abbrev pub isCompared : Bool
-  isCompared = all_to 10 (λ r. get_or rules r true)
+  abbrev pub is_compared : Bool
+  is_compared = all_to 10 (λ r. get_or rules r true)
 
-  pub compared-by : isCompared ≡ true → Compared rest run free v w
+  pub compared_by : is_compared ≡ true → Compared rest run free v w
   unfolding rules
-  compared-by e =
+  compared_by e =
       let rule : (r : ℕ) → T (ltb r 10) → get_or rules r true ≡ true = λ r h. all_at 10 r _ e (lit< h) in
       record {
         cpus = a.sound _ _ (rule 0 tt);

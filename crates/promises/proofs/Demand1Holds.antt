@@ -17,7 +17,7 @@ use Rattle.rules.proofs.Determined.{first_of_determined, in_range_determined, ti
 use Rattle.checking.proofs.Determined.{check_determined}
 use Rattle.field.proofs.Determined.{time_determined, count_determined, ends_at_determined}
 use Rattle.put.proofs.Determined.{put_time_determined, put_count_determined, put_text_determined, spaced_count_determined, put_length_determined, count_len_determined, time_len_determined}
-use Rattle.put.proofs.PutLaws.{short-is}
+use Rattle.put.proofs.PutLaws.{short_is}
 use Rattle.writing.specs.Write.{written}
 use Rattle.line.proofs.Determined.{line_of_determined}
 use Rattle.listing.proofs.Determined.{read_determined}
@@ -134,7 +134,7 @@ keeps =
     record {
       row = λ t allowance row r e. rw e;
       output = λ t out r e. rw e;
-      field = λ text out e. (short-is text out (sym e) refl).1;
+      field = λ text out e. (short_is text out (sym e) refl).1;
       place = λ text at out e. not_put (leb (at + length text) (length out)) _ _ out e;
       page = λ p cells out e. not_put (fits_page p out) _ _ out e;
       table = listing_empty;

@@ -19,15 +19,15 @@ use Rattle.theory.specs.Bound.{Least}
 use Rattle.theory.specs.Merge.{merged}
 use Rattle.theory.proofs.MergeLaws.{merged_bounds}
 use Rattle.theory.proofs.WorkLaws.{workload_rises}
-use Rattle.theory.proofs.AllowanceLaws.{open_above, open-count}
-use Rattle.theory.proofs.EndLaws.{Right, meets-if, misses-if}
+use Rattle.theory.proofs.AllowanceLaws.{open_above, open_count}
+use Rattle.theory.proofs.EndLaws.{Right, meets_if, misses_if}
 use Rattle.theory.proofs.DemandLaws.{demand_start}
 use Rattle.analysis.specs.declared.Answer.TheVariants.{Known}
 use Rattle.theory.specs.Tables.{merged_view, counted_by, counted_in}
 use Rattle.analysis.specs.declared.Record.{Record}
 use Rattle.analysis.specs.Answers.{bound_of, analysis_fault, record_by}
-use Rattle.analysis.proofs.ByRounds.{rounds-end, rounds-right, bound_known}
-use Rattle.analysis.proofs.RowLaws.{fits, allowed, count-fine, row-record, row-past, row-long}
+use Rattle.analysis.proofs.ByRounds.{rounds_end, rounds_right, bound_known}
+use Rattle.analysis.proofs.RowLaws.{fits, allowed, count_fine, row_record, row_past, row_long}
 use Rattle.meaning.proofs.Meaning.{correct, complete, passes_check}
 use Rattle.meaning.proofs.OneReading.{unambiguous}
 use Rattle.table.proofs.Sameness.{cleared_same}
@@ -42,43 +42,43 @@ module _ (t : Table) (i allowance : ℕ) (fine : table_fault t ≡ Fine) (h : i 
 
   right : Right (demand_in t i) (deadline_in t i) v
   unfolding v counted_by
-  right = rounds-right workload workload_rises (merged t) i (merged_bounds t fine) h allowance
+  right = rounds_right workload workload_rises (merged t) i (merged_bounds t fine) h allowance
 
-  as-right : {w : Verdict} → v ≡ w → Right (demand_in t i) (deadline_in t i) w
-  as-right e = rw e at right
+  as_right : {w : Verdict} → v ≡ w → Right (demand_in t i) (deadline_in t i) w
+  as_right e = rw e at right
 
   opens : (v ≡ Open) exactly_if ((n : ℕ) × CountIn t i n × (allowance < n))
   unfolding v counted_by
   opens =
-      let c = rounds-end workload workload_rises (merged t) i (merged_bounds t fine) h in
-      (λ e. (c.0, c.1, open-count _ _ allowance _ c.0 c.1 e), λ x. open_above _ _ allowance _ x.0 x.1 x.2)
+      let c = rounds_end workload workload_rises (merged t) i (merged_bounds t fine) h in
+      (λ e. (c.0, c.1, open_count _ _ allowance _ c.0 c.1 e), λ x. open_above _ _ allowance _ x.0 x.1 x.2)
 
-  right-verdict : RightVerdict t i allowance v
-  right-verdict =
+  right_verdict : RightVerdict t i allowance v
+  right_verdict =
       record {
-        meets = λ q u. (λ e. as-right e, meets-if _ _ v right q u);
-        misses = λ q. (λ e. as-right e, misses-if _ _ v right q);
+        meets = λ q u. (λ e. as_right e, meets_if _ _ v right q u);
+        misses = λ q. (λ e. as_right e, misses_if _ _ v right q);
         is_open = opens;
-        from_run = λ u e. let l : Least (demand_in t i) (deadline_in t i) u = as-right e in (le_trans (demand_start workload (merged_view t) (level i) u) l.meets, l.high);
+        from_run = λ u e. let l : Least (demand_in t i) (deadline_in t i) u = as_right e in (le_trans (demand_start workload (merged_view t) (level i) u) l.meets, l.high);
       }
 
 verdicts : (t : Table) (i allowance : ℕ) → table_fault t ≡ Fine → i < t.n → 1 ≤ allowance
     → (r : Counted) × (bound_of t (level i) allowance ≡ Known r) × RightVerdict t i allowance r.verdict
 unfolding v
-verdicts t i allowance fine h a = (counted_in t allowance (level i), bound_known t i allowance fine h a, right-verdict t i allowance fine h)
+verdicts t i allowance fine h a = (counted_in t allowance (level i), bound_known t i allowance fine h a, right_verdict t i allowance fine h)
 
 -- the row, where nothing is said against it and the table
 right_row : (t : Table) (allowance : ℕ) (row : List Record) → analysis_fault t allowance (length row) ≡ Fine → RightRow t allowance row
 unfolding record_by
 right_row t allowance row e =
     let f = fits t allowance (length row) e in
-    let w = count-fine t allowance (length row) e in
+    let w = count_fine t allowance (length row) e in
     record {
-      task = λ i h. ap (λ (r : Record). r.task) (row-record t allowance row i _ (rw w h));
+      task = λ i h. ap (λ (r : Record). r.task) (row_record t allowance row i _ (rw w h));
       verdict = λ i h. bound_known t i allowance f.0 h (allowed t allowance (length row) e)
-          ∙ ap (λ (r : Record). Known (record { verdict = r.verdict; rounds = r.rounds })) (sym (row-record t allowance row i _ (rw w h)));
-      past = rw w at (row-past t allowance row);
-      long = row-long t allowance row;
+          ∙ ap (λ (r : Record). Known (record { verdict = r.verdict; rounds = r.rounds })) (sym (row_record t allowance row i _ (rw w h)));
+      past = rw w at (row_past t allowance row);
+      long = row_long t allowance row;
     }
 
 -- the output of a listing, where there is room

@@ -34,13 +34,13 @@ use Rattle.theory.specs.Tables.{merged_view, counted_by}
 use Rattle.theory.proofs.WorkLaws.{workload_rises}
 use Rattle.theory.proofs.MergeLaws.{merged_agrees, merged_bounds}
 use Rattle.analysis.specs.Answers.{bound_of}
-use Rattle.analysis.proofs.ByRounds.{by-rounds}
+use Rattle.analysis.proofs.ByRounds.{by_rounds}
 use Rattle.waits.specs.Wait.{wait_of}
 use Rattle.waits.specs.Answers.{wait_in}
 use Rattle.promises.specs.Words.{read_table}
 use Rattle.promises.specs.Reads.{Unchanged}
 use Rattle.promises.specs.Groups.{SameTogether, Groups, apart, shared, two, one, EitherWay}
-use Rattle.promises.proofs.MergedLaws.{AlikeTask, alike-unchanged, without, slots_together, as_typed}
+use Rattle.promises.proofs.MergedLaws.{AlikeTask, alike_unchanged, without, slots_together, as_typed}
 use Rattle.promises.proofs.NoEasierHolds.{one as keeps-one}
 use Rattle.promises.proofs.ReadsHold.{verdict_reads}
 use Rattle.promises.proofs.AlphaLaws.{wait_same}
@@ -84,7 +84,7 @@ module _ (a b : Table) (e : table_fault a ≡ Fine) (f : table_fault b ≡ Fine)
 
   unchanged : (runs : Level → Type 0) → Unchanged (λ l. Unit) runs (merged_view a) (merged_view b)
   unchanged =
-      alike-unchanged a b (sym s.rest.cpus) (sym s.rest.n) alike (slots_together a b s.locks) (λ l g h. absurd (omega (arith, (fine_accepted a e).tasks_most)))
+      alike_unchanged a b (sym s.rest.cpus) (sym s.rest.n) alike (slots_together a b s.locks) (λ l g h. absurd (omega (arith, (fine_accepted a e).tasks_most)))
 
   numbered : (i allowance : ℕ) → i < a.n → bound_of b (level i) allowance ≡ bound_of a (level i) allowance
   numbered i allowance h = verdict_reads.run_below (level (suc i)) a b i (record { first = e; second = f; related = (omega arith, unchanged _) }) h allowance
@@ -115,8 +115,8 @@ pub either_way : EitherWay
 unfolding sum_to max_to all_to first_to join_to empty_task empty_table first_fault times_in_range times_in_order times_fault groups_in_range has_group is_unused used_in_range pair_in_range totals_fit pair_fault pairs_fault alpha_fault task_fault last_alpha tasks_fault table_fault rounded fraction time_field count_field field_count cpus_line group_line task_line use_line line_says past_after new_task table_after read_end read_lines read_listing uncapped workload jobs ceil_div ceiling shared_CT other_CT all_CT high_CT DB S O F L demand_with counted_from slot_of merged_pair merged_task grouped_tasks merged_tasks
 either_way =
     record {
-      before_larger = by-rounds workload workload_rises (merged (read_table apart)) 0 (merged_bounds (read_table apart) refl) (lit< tt) 1 {v = Meets 1_000} refl;
-      larger = by-rounds workload workload_rises (merged (read_table shared)) 0 (merged_bounds (read_table shared) refl) (lit< tt) 2 {v = Meets 3_000} refl;
-      before_smaller = by-rounds workload workload_rises (merged (read_table two)) 1 (merged_bounds (read_table two) refl) (lit< tt) 3 {v = Meets 5_000} refl;
-      smaller = by-rounds workload workload_rises (merged (read_table one)) 1 (merged_bounds (read_table one) refl) (lit< tt) 3 {v = Meets 3_000} refl;
+      before_larger = by_rounds workload workload_rises (merged (read_table apart)) 0 (merged_bounds (read_table apart) refl) (lit< tt) 1 {v = Meets 1_000} refl;
+      larger = by_rounds workload workload_rises (merged (read_table shared)) 0 (merged_bounds (read_table shared) refl) (lit< tt) 2 {v = Meets 3_000} refl;
+      before_smaller = by_rounds workload workload_rises (merged (read_table two)) 1 (merged_bounds (read_table two) refl) (lit< tt) 3 {v = Meets 5_000} refl;
+      smaller = by_rounds workload workload_rises (merged (read_table one)) 1 (merged_bounds (read_table one) refl) (lit< tt) 3 {v = Meets 3_000} refl;
     }

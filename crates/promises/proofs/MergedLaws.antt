@@ -30,7 +30,7 @@ use Rattle.theory.specs.View.{level, uses}
 use Rattle.theory.specs.Demand.{all_CT}
 use Rattle.theory.specs.Merge.{slot_of, merged_pair, merged}
 use Rattle.theory.specs.Tables.{view_of, merged_view}
-use Rattle.theory.proofs.MergeLaws.{slot-alone, slot-group, slot-below, used-merged, sum-merged, pair_alike, MergedTask, none-tasks, merged-task}
+use Rattle.theory.proofs.MergeLaws.{slot_alone, slot_group, slot_below, used_merged, sum_merged, pair_alike, MergedTask, none_tasks, merged_task_lem}
 use Rattle.promises.specs.NoEasier.{EachPair, NoEasier}
 use Rattle.promises.specs.Reads.{Unchanged}
 use Rattle.promises.specs.Groups.{together, EqualGroups}
@@ -38,7 +38,7 @@ use Rattle.promises.specs.Groups.{together, EqualGroups}
 -- ---- without groups
 
 pub without : (t : Table) → NoGroup t → merged_view t ≡ view_of t
-without t z = let e = none-tasks t z in λ j. view_of (record { cpus = t.cpus; n = t.n; groups = t.groups; tasks = e j })
+without t z = let e = none_tasks t z in λ j. view_of (record { cpus = t.cpus; n = t.n; groups = t.groups; tasks = e j })
 
 -- ---- what the check leaves
 
@@ -51,22 +51,22 @@ module _ (t : Table) (e : table_fault t ≡ Fine) where
   a : Accepted t
   a = fine_accepted t e
 
-  pub task-merged : (l : ℕ) → l < t.n → MergedTask t (task_at t l) (task_at (merged t) l)
-  task-merged l h = merged-task t l h (omega (arith, a.tasks_most))
+  pub task_merged : (l : ℕ) → l < t.n → MergedTask t (task_at t l) (task_at (merged t) l)
+  task_merged l h = merged_task_lem t l h (omega (arith, a.tasks_most))
 
-  pub used-test : (l k : ℕ) → l < t.n → k < max_resources → ltb 0 (pair_at (merged t) l k).requests ≡ ltb 0 (pair_at (merged t) l k).total
-  used-test l k h q =
-      let m = (task-merged l h).pairs k q in
+  pub used_test : (l k : ℕ) → l < t.n → k < max_resources → ltb 0 (pair_at (merged t) l k).requests ≡ ltb 0 (pair_at (merged t) l k).total
+  used_test l k h q =
+      let m = (task_merged l h).pairs k q in
       ap (λ (p : Pair). ltb 0 p.requests) m
-      ∙ used-merged t.groups (task_at t l) k (λ j r. pair_test (pair_at t l j) ((a.task l h).pair j r))
+      ∙ used_merged t.groups (task_at t l) k (λ j r. pair_test (pair_at t l j) ((a.task l h).pair j r))
       ∙ ap (λ (p : Pair). ltb 0 p.total) (sym m)
 
   -- all CT of a task together, as typed
-  pub all-merged : (l : ℕ) → l < t.n → all_CT (merged_view t) (level l) ≡ all_CT (view_of t) (level l)
+  pub all_merged : (l : ℕ) → l < t.n → all_CT (merged_view t) (level l) ≡ all_CT (view_of t) (level l)
   unfolding all_CT merged_pair
-  all-merged l h =
-      sum_eq max_resources _ (λ k. (merged_pair t.groups (task_at t l) k).total) (λ k q. ap (λ (p : Pair). p.total) ((task-merged l h).pairs k q))
-      ∙ sum-merged t.groups (total_of (task_at t l))
+  all_merged l h =
+      sum_eq max_resources _ (λ k. (merged_pair t.groups (task_at t l) k).total) (λ k q. ap (λ (p : Pair). p.total) ((task_merged l h).pairs k q))
+      ∙ sum_merged t.groups (total_of (task_at t l))
 
 -- ---- two tables whose resources stand at the same slots, and whose tasks are the same but for alpha
 
@@ -80,14 +80,14 @@ module _ (a b : Table) (cpus : b.cpus ≡ a.cpus) (n : b.n ≡ a.n) (tasks : (l 
     (slots : (j : ℕ) → j < max_resources → slot_of b.groups j ≡ slot_of a.groups j)
     (past : (l : ℕ) → max_tasks ≤ l → l < a.n → AlikeTask (task_at (merged a) l) (task_at (merged b) l)) where
   -- their merged pairs are the same
-  alike-merged : (l : ℕ) → l < a.n → AlikeTask (task_at (merged a) l) (task_at (merged b) l)
-  alike-merged l h = go (dec_lt l max_tasks)
+  alike_merged : (l : ℕ) → l < a.n → AlikeTask (task_at (merged a) l) (task_at (merged b) l)
+  alike_merged l h = go (dec_lt l max_tasks)
     where
       go : Dec (l < max_tasks) → AlikeTask (task_at (merged a) l) (task_at (merged b) l)
       go (no d) = past l (omega arith) h
       go (yes d) =
-          let x = merged-task a l h d in
-          let y = merged-task b l (rw n h) d in
+          let x = merged_task_lem a l h d in
+          let y = merged_task_lem b l (rw n h) d in
           let s = tasks l h in
           record {
             period = y.period ∙ s.period ∙ sym x.period;
@@ -96,17 +96,17 @@ module _ (a b : Table) (cpus : b.cpus ≡ a.cpus) (n : b.n ≡ a.n) (tasks : (l 
             pairs = λ k q. y.pairs k q ∙ pair_alike b.groups a.groups (task_at b l) (task_at a l) k slots s.pairs ∙ sym (x.pairs k q);
           }
 
-  pub alike-unchanged : (runs : Level → Type 0) → Unchanged (λ l. Unit) runs (merged_view a) (merged_view b)
-  alike-unchanged runs =
+  pub alike_unchanged : (runs : Level → Type 0) → Unchanged (λ l. Unit) runs (merged_view a) (merged_view b)
+  alike_unchanged runs =
       record {
         cpus = cpus;
         n = n;
-        T = λ l h x. (alike-merged l h).period;
-        C = λ l h x. (alike-merged l h).run;
-        D = λ l h x. (alike-merged l h).deadline;
-        N = λ l k h q x. ap (λ (p : Pair). p.requests) ((alike-merged l h).pairs k q);
-        c = λ l k h q x. ap (λ (p : Pair). p.longest) ((alike-merged l h).pairs k q);
-        CT = λ l k h q x. ap (λ (p : Pair). p.total) ((alike-merged l h).pairs k q);
+        T = λ l h x. (alike_merged l h).period;
+        C = λ l h x. (alike_merged l h).run;
+        D = λ l h x. (alike_merged l h).deadline;
+        N = λ l k h q x. ap (λ (p : Pair). p.requests) ((alike_merged l h).pairs k q);
+        c = λ l k h q x. ap (λ (p : Pair). p.longest) ((alike_merged l h).pairs k q);
+        CT = λ l k h q x. ap (λ (p : Pair). p.total) ((alike_merged l h).pairs k q);
       }
 
 -- ---- who is together decides at which slot the figures of a resource stand
@@ -123,19 +123,19 @@ slot_together t j h = sym (first_by max_resources (together t j) (slot_of t.grou
 
     go : Dec (G j ≡ 0) → First max_resources (together t j) (slot_of t.groups j)
     go (yes z) =
-        rw (slot-alone t.groups j z)
+        rw (slot_alone t.groups j z)
         (record {
           upto = omega arith;
           clear = λ k l. apart k (λ q. omega arith) (rw (le-ltb 0 (G j) (omega arith)));
           found = λ _. rw (eq-eqb j j refl);
         })
     go (no d) =
-        let w = slot-group t.groups j d in
-        let b = slot-below t.groups j h in
+        let w = slot_group t.groups j d in
+        let b = slot_below t.groups j h in
         record {
           upto = w.upto;
           clear = λ k l. let o = eqb-false (G k) (G j) (w.clear k l) in apart k (λ q. o (ap G (sym q))) (other k o);
-          found = λ _. let e = eqb-true (G (slot_of t.groups j)) (G j) (w.found b) in is-or (eqb j (slot_of t.groups j)) (and_is (lt-ltb 0 (G j) (omega arith)) (eq-eqb (G j) _ (sym e)));
+          found = λ _. let e = eqb-true (G (slot_of t.groups j)) (G j) (w.found b) in is_or (eqb j (slot_of t.groups j)) (and_is (lt-ltb 0 (G j) (omega arith)) (eq-eqb (G j) _ (sym e)));
         }
       where
         other : (k : ℕ) → (G k ≡ G j → ⊥) → (ltb 0 (G j) && eqb (G j) (G k)) ≡ false
@@ -144,9 +144,9 @@ slot_together t j h = sym (first_by max_resources (together t j) (slot_of t.grou
         and_is : {x y : Bool} → x ≡ true → y ≡ true → (x && y) ≡ true
         and_is e f = rw (e, f)
 
-        is-or : (x : Bool) {y : Bool} → y ≡ true → (x || y) ≡ true
-        is-or true f = refl
-        is-or false f = f
+        is_or : (x : Bool) {y : Bool} → y ≡ true → (x || y) ≡ true
+        is_or true f = refl
+        is_or false f = f
 
 pub slots_together : (a b : Table) → ((j k : ℕ) → j < max_resources → k < max_resources → together a j k ≡ together b j k)
     → (j : ℕ) → j < max_resources → slot_of b.groups j ≡ slot_of a.groups j
@@ -159,8 +159,8 @@ slots_equal a b same = slots_together a b (λ j k h l. rw (same j h, same k l))
 -- ---- no easier as typed, so no easier by the merged pairs
 
 module _ (a b : Table) (e : table_fault a ≡ Fine) (f : table_fault b ≡ Fine) (same : EqualGroups a b) (w : NoEasier (view_of a) (view_of b)) where
-  in-second : (l : ℕ) → l < a.n → l < b.n
-  in-second l h = le_trans h w.n
+  in_second : (l : ℕ) → l < a.n → l < b.n
+  in_second l h = le_trans h w.n
 
   slot : (j : ℕ) → j < max_resources → slot_of b.groups j ≡ slot_of a.groups j
   slot = slots_equal a b same
@@ -170,10 +170,10 @@ module _ (a b : Table) (e : table_fault a ≡ Fine) (f : table_fault b ≡ Fine)
 
   -- of a task and a slot, figure by figure
   at_first : (l k : ℕ) → l < a.n → k < max_resources → pair_at (merged a) l k ≡ merged_pair a.groups (task_at a l) k
-  at_first l k h q = (task-merged a e l h).pairs k q
+  at_first l k h q = (task_merged a e l h).pairs k q
 
   at_second : (l k : ℕ) → l < a.n → k < max_resources → pair_at (merged b) l k ≡ merged_pair b.groups (task_at b l) k
-  at_second l k h q = (task-merged b f l (in-second l h)).pairs k q
+  at_second l k h q = (task_merged b f l (in_second l h)).pairs k q
 
   requests : EachPair (merged_view a) (λ l k. (merged_view a).N l k ≤ (merged_view b).N l k)
   unfolding merged_pair
@@ -203,23 +203,23 @@ module _ (a b : Table) (e : table_fault a ≡ Fine) (f : table_fault b ≡ Fine)
       both true y m n s t = rw (← s) t
       both false y m n s t = rw (← s)
 
-  run-first : (l : ℕ) → l < a.n → (merged_view a).C (level l) ≡ (view_of a).C (level l)
-  run-first l h = (task-merged a e l h).run
+  run_first : (l : ℕ) → l < a.n → (merged_view a).C (level l) ≡ (view_of a).C (level l)
+  run_first l h = (task_merged a e l h).run
 
-  run-second : (l : ℕ) → l < a.n → (merged_view b).C (level l) ≡ (view_of b).C (level l)
-  run-second l h = (task-merged b f l (in-second l h)).run
+  run_second : (l : ℕ) → l < a.n → (merged_view b).C (level l) ≡ (view_of b).C (level l)
+  run_second l h = (task_merged b f l (in_second l h)).run
 
   pub as_typed : NoEasier (merged_view a) (merged_view b)
   as_typed =
       record {
         cpus = w.cpus;
         n = w.n;
-        T = λ l h. rw ((task-merged a e l h).period, (task-merged b f l (in-second l h)).period) (w.T l h);
+        T = λ l h. rw ((task_merged a e l h).period, (task_merged b f l (in_second l h)).period) (w.T l h);
         N = requests;
         c = longest;
-        C = λ l h. rw (run-first l h, run-second l h) (w.C l h);
+        C = λ l h. rw (run_first l h, run_second l h) (w.C l h);
         CT = totals;
-        free = λ l h. rw (run-first l h, run-second l h, all-merged a e l h, all-merged b f l (in-second l h)) (w.free l h);
-        D = λ l h. (task-merged b f l (in-second l h)).deadline ∙ w.D l h ∙ sym (task-merged a e l h).deadline;
+        free = λ l h. rw (run_first l h, run_second l h, all_merged a e l h, all_merged b f l (in_second l h)) (w.free l h);
+        D = λ l h. (task_merged b f l (in_second l h)).deadline ∙ w.D l h ∙ sym (task_merged a e l h).deadline;
         pairs = used;
       }

@@ -29,44 +29,44 @@ pub record Fits (v : View) : Type 0 where
   pub totals : EachTask v (λ l. all_CT v l ≤ v.C l)
 
 module _ (v w : View) (s : NoEasier v w) (fits : Fits w) (i : ℕ) (hi : i < v.n) where
-  in-second : (l : ℕ) → l < v.n → l < w.n
-  in-second l h = omega (arith, s.n)
+  in_second : (l : ℕ) → l < v.n → l < w.n
+  in_second l h = omega (arith, s.n)
 
-  longest-le : (k : ℕ) → k < max_resources
+  longest_le : (k : ℕ) → k < max_resources
       → largest_below v (level i) (λ l. v.c l (resource k)) ≤ largest_below w (level i) (λ l. w.c l (resource k))
-  longest-le k r = max_wider v.n w.n _ _ s.n (λ l h. only_le (is_above (level i) (level l)) _ _ _ refl (s.c l k h r))
+  longest_le k r = max_wider v.n w.n _ _ s.n (λ l h. only_le (is_above (level i) (level l)) _ _ _ refl (s.c l k h r))
 
-  DB-le : DB v (level i) ≤ DB w (level i)
+  DB_le : DB v (level i) ≤ DB w (level i)
   unfolding DB
-  DB-le =
+  DB_le =
       sum_le max_resources _ _
-      (λ k r. only_le (uses v (level i) (resource k)) _ _ _ (s.pairs i k hi r) (mul-le-mul (s.N i k hi r) (longest-le k r)))
+      (λ k r. only_le (uses v (level i) (resource k)) _ _ _ (s.pairs i k hi r) (mul-le-mul (s.N i k hi r) (longest_le k r)))
 
   -- the same resources have a ceiling above i, for the tasks above i use the same
-  ceiling-eq : (k : ℕ) → k < max_resources
+  ceiling_eq : (k : ℕ) → k < max_resources
       → is_above (ceiling w (resource k)) (level i) ≡ is_above (ceiling v (resource k)) (level i)
-  ceiling-eq k r =
+  ceiling_eq k r =
       ceiling_above w i (resource k) (omega (arith, s.n))
       ∙ sum_some i _ _ (λ l h. s.pairs l k (omega arith) r)
       ∙ sym (ceiling_above v i (resource k) (omega arith))
 
   -- x units of a task in the first, y in the second, which are no fewer and at most its C
-  load-le : (t l x y : ℕ) → l < v.n → x ≤ y → y ≤ w.C (level l) → load_of workload v t (level l) x ≤ load_of workload w t (level l) y
-  load-le t l x y h le most =
-      let j = in-second l h in
+  load_le : (t l x y : ℕ) → l < v.n → x ≤ y → y ≤ w.C (level l) → load_of workload v t (level l) x ≤ load_of workload w t (level l) y
+  load_le t l x y h le most =
+      let j = in_second l h in
       le_trans
       (rw (← s.D l h) (workload_rises (v.T (level l)) (w.T (level l)) (w.D (level l)) t t x (fits.runs.T l j) (s.T l h) (le_refl t)))
       (workload_grows (w.T (level l)) (w.D (level l)) t x y (fits.runs.T l j) (fits.deadline_period l j) le (le_trans most (fits.run_deadline l j)))
 
   -- the CT of some of a task's resources
-  locks-le : (p q : Resource → Bool) → ((k : ℕ) → k < max_resources → q (resource k) ≡ p (resource k)) → (t l : ℕ) → l < v.n
+  locks_le : (p q : Resource → Bool) → ((k : ℕ) → k < max_resources → q (resource k) ≡ p (resource k)) → (t l : ℕ) → l < v.n
       → load_of workload v t (level l) (over_resources (λ k. only (p k) (v.CT (level l) k)))
       ≤ load_of workload w t (level l) (over_resources (λ k. only (q k) (w.CT (level l) k)))
   unfolding all_CT
-  locks-le p q e t l h =
-      load-le t l _ _ h
+  locks_le p q e t l h =
+      load_le t l _ _ h
       (sum_le max_resources _ _ (λ k r. only_le (p (resource k)) _ _ _ (e k r) (s.CT l k h r)))
-      (le_trans (sum_le max_resources _ _ (λ k r. only_below (q (resource k)) _)) (fits.totals l (in-second l h)))
+      (le_trans (sum_le max_resources _ _ (λ k r. only_below (q (resource k)) _)) (fits.totals l (in_second l h)))
 
   terms : (t : ℕ) → TermsGrow workload workload v w (level i) t t
   unfolding shared_CT other_CT high_CT
@@ -76,11 +76,11 @@ module _ (v w : View) (s : NoEasier v w) (fits : Fits w) (i : ℕ) (hi : i < v.n
         cpus = s.cpus;
         n = s.n;
         C = s.C i hi;
-        DB = DB-le;
-        S = locks-le (uses v (level i)) (uses w (level i)) (λ k r. s.pairs i k hi r) t;
-        O = locks-le (λ k. not (uses v (level i) k)) (λ k. not (uses w (level i) k)) (λ k r. ap not (s.pairs i k hi r)) t;
-        F = λ l h. load-le t l _ _ h (omega (arith, s.free l h)) (omega arith);
-        L = locks-le (λ k. is_above (ceiling v k) (level i)) (λ k. is_above (ceiling w k) (level i)) ceiling-eq t;
+        DB = DB_le;
+        S = locks_le (uses v (level i)) (uses w (level i)) (λ k r. s.pairs i k hi r) t;
+        O = locks_le (λ k. not (uses v (level i) k)) (λ k. not (uses w (level i) k)) (λ k r. ap not (s.pairs i k hi r)) t;
+        F = λ l h. load_le t l _ _ h (omega (arith, s.free l h)) (omega arith);
+        L = locks_le (λ k. is_above (ceiling v k) (level i)) (λ k. is_above (ceiling w k) (level i)) ceiling_eq t;
       }
 
 -- THE ONE RESULT, over what the analysis reads

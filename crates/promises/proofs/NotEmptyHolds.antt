@@ -25,14 +25,14 @@ use Rattle.theory.specs.Rounds.{counted_from}
 use Rattle.theory.specs.Tables.{merged_view}
 use Rattle.theory.proofs.WorkLaws.{workload_rises}
 use Rattle.theory.proofs.EndLaws.{Right}
-use Rattle.analysis.proofs.ByRounds.{by-rounds}
+use Rattle.analysis.proofs.ByRounds.{by_rounds}
 use Rattle.theory.specs.Merge.{merged_tasks, merged}
 use Rattle.theory.proofs.MergeLaws.{merged_bounds}
 use Rattle.promises.specs.Words.{read_table}
 use Rattle.promises.specs.Demand2.{demand_in, run_in, deadline_in}
 use Rattle.promises.specs.NoEasier.{Compared, LongerButFree, Related}
 use Rattle.promises.specs.NotEmpty.{on, Moves, Lost, holding, holding_longer, NotEmpty}
-use Rattle.promises.proofs.ComparedByTest.{Tested, at_most, equal, any, rules, isCompared, compared-by}
+use Rattle.promises.proofs.ComparedByTest.{Tested, at_most, equal, any, rules, is_compared, compared_by}
 
 -- the rounds of the task in slot i, so many of them allowed
 abbrev pub counted_at : Table → ℕ → ℕ → Counted
@@ -40,27 +40,27 @@ counted_at t i k = counted_from (demand_in t i) (deadline_in t i) k (run_in t i)
 
 -- a verdict after k rounds
 after : (t : Table) (i k : ℕ) {v : Verdict} → table_fault t ≡ Fine → T (ltb i t.n) → counted_at t i k ≡ record { verdict = v; rounds = k } → Right (demand_in t i) (deadline_in t i) v
-after t i k e h c = by-rounds workload workload_rises (merged t) i (merged_bounds t e) (lit< h) k c
+after t i k e h c = by_rounds workload workload_rises (merged t) i (merged_bounds t e) (lit< h) k c
 
 -- a bound after j rounds goes to one after k, or to a miss, in tables that are related in whatever way
 module _ {R : View → View → Type 0} {a b : Table} {i : ℕ} (j k : ℕ) (r : Related R a b) (h : T (ltb i a.n)) (h' : T (ltb i b.n)) where
-  pub moves-by : {u w : ℕ} → counted_at a i j ≡ record { verdict = Meets u; rounds = j } → counted_at b i k ≡ record { verdict = Meets w; rounds = k } → Moves R a b i u w
-  moves-by c d = record { related = r; before = after a i j r.first h c; after = after b i k r.second h' d }
+  pub moves_by : {u w : ℕ} → counted_at a i j ≡ record { verdict = Meets u; rounds = j } → counted_at b i k ≡ record { verdict = Meets w; rounds = k } → Moves R a b i u w
+  moves_by c d = record { related = r; before = after a i j r.first h c; after = after b i k r.second h' d }
 
-  pub lost-by : {u : ℕ} → counted_at a i j ≡ record { verdict = Meets u; rounds = j } → counted_at b i k ≡ record { verdict = Misses; rounds = k } → Lost R a b i u
-  lost-by c d = record { related = r; before = after a i j r.first h c; after = after b i k r.second h' d }
+  pub lost_by : {u : ℕ} → counted_at a i j ≡ record { verdict = Meets u; rounds = j } → counted_at b i k ≡ record { verdict = Misses; rounds = k } → Lost R a b i u
+  lost_by c d = record { related = r; before = after a i j r.first h c; after = after b i k r.second h' d }
 
 module _ {rest run free : ℕ → ℕ → Type 0} (p : Tested rest) (q : Tested run) (r : Tested free) {a b : Table} where
-  pub related-by : table_fault a ≡ Fine → table_fault b ≡ Fine → isCompared p q r (merged_view a) (merged_view b) ≡ true → Related (Compared rest run free) a b
-  related-by e f h = record { first = e; second = f; related = compared-by p q r _ _ h }
+  pub related_by : table_fault a ≡ Fine → table_fault b ≡ Fine → is_compared p q r (merged_view a) (merged_view b) ≡ true → Related (Compared rest run free) a b
+  related_by e f h = record { first = e; second = f; related = compared_by p q r _ _ h }
 
-  moves : {i u w : ℕ} (j k : ℕ) → table_fault a ≡ Fine → table_fault b ≡ Fine → isCompared p q r (merged_view a) (merged_view b) ≡ true → T (ltb i a.n) → T (ltb i b.n)
+  moves : {i u w : ℕ} (j k : ℕ) → table_fault a ≡ Fine → table_fault b ≡ Fine → is_compared p q r (merged_view a) (merged_view b) ≡ true → T (ltb i a.n) → T (ltb i b.n)
       → counted_at a i j ≡ record { verdict = Meets u; rounds = j } → counted_at b i k ≡ record { verdict = Meets w; rounds = k } → Moves (Compared rest run free) a b i u w
-  moves j k e f h l m c d = moves-by j k (related-by e f h) l m c d
+  moves j k e f h l m c d = moves_by j k (related_by e f h) l m c d
 
-  lost : {i u : ℕ} (j k : ℕ) → table_fault a ≡ Fine → table_fault b ≡ Fine → isCompared p q r (merged_view a) (merged_view b) ≡ true → T (ltb i a.n) → T (ltb i b.n)
+  lost : {i u : ℕ} (j k : ℕ) → table_fault a ≡ Fine → table_fault b ≡ Fine → is_compared p q r (merged_view a) (merged_view b) ≡ true → T (ltb i a.n) → T (ltb i b.n)
       → counted_at a i j ≡ record { verdict = Meets u; rounds = j } → counted_at b i k ≡ record { verdict = Misses; rounds = k } → Lost (Compared rest run free) a b i u
-  lost j k e f h l m c d = lost-by j k (related-by e f h) l m c d
+  lost j k e f h l m c d = lost_by j k (related_by e f h) l m c d
 
 pub two_tasks : 1 < (read_table holding).n
 unfolding sum_to empty_task empty_table first_fault times_in_range times_in_order times_fault is_unused used_in_range pair_in_range totals_fit pair_fault rounded fraction time_field count_field width count_text field_count cpus_line task_line use_line line_says past_after new_task table_after read_end read_lines read_listing group_line

@@ -18,24 +18,24 @@ use Rattle.theory.specs.Demand.{shared_CT, other_CT, all_CT, high_CT}
 use Rattle.promises.specs.Reads.{Above, processors, tasks, run, deadline, requests, period_above, deadline_above, shared, other, free, period_below, deadline_below, high, longest, AgreeOn, SameRead, OnlyRun}
 
 module _ (j : Level) (v w : View) (o : OnlyRun j v w) (i : ℕ) (hi : i < v.n) (above : Above (level i) j) where
-  uses-eq : (l k : ℕ) → l < v.n → k < max_resources → uses w (level l) (resource k) ≡ uses v (level l) (resource k)
-  uses-eq l k h r = ap (ltb 0) (o.N l k h r tt)
+  uses_eq : (l k : ℕ) → l < v.n → k < max_resources → uses w (level l) (resource k) ≡ uses v (level l) (resource k)
+  uses_eq l k h r = ap (ltb 0) (o.N l k h r tt)
 
-  ceiling-eq : (k : ℕ) → k < max_resources → ceiling w (resource k) ≡ ceiling v (resource k)
+  ceiling_eq : (k : ℕ) → k < max_resources → ceiling w (resource k) ≡ ceiling v (resource k)
   unfolding ceiling
-  ceiling-eq k r = rw o.n (ap level (first_eq v.n _ _ (λ l h. uses-eq l k h r)))
+  ceiling_eq k r = rw o.n (ap level (first_eq v.n _ _ (λ l h. uses_eq l k h r)))
 
   -- the CT of some of a task's resources
-  locks-eq : (p q : Resource → Bool) → ((k : ℕ) → k < max_resources → q (resource k) ≡ p (resource k)) → (l : ℕ) → l < v.n
+  locks_eq : (p q : Resource → Bool) → ((k : ℕ) → k < max_resources → q (resource k) ≡ p (resource k)) → (l : ℕ) → l < v.n
       → over_resources (λ k. only (q k) (w.CT (level l) k)) ≡ over_resources (λ k. only (p k) (v.CT (level l) k))
-  locks-eq p q e l h = sum_eq max_resources _ _ (λ k r. ap₂ only (e k r) (o.CT l k h r tt))
+  locks_eq p q e l h = sum_eq max_resources _ _ (λ k r. ap₂ only (e k r) (o.CT l k h r tt))
 
   -- a task above i, and i itself, is not j
-  run-eq : (l : ℕ) → l < v.n → Above (level l) j → w.C (level l) ≡ v.C (level l)
-  run-eq l h a = o.C l h (λ e. let z : (level l).0 ≡ j.0 = ap (λ (x : Level). x.0) e in omega arith)
+  run_eq : (l : ℕ) → l < v.n → Above (level l) j → w.C (level l) ≡ v.C (level l)
+  run_eq l h a = o.C l h (λ e. let z : (level l).0 ≡ j.0 = ap (λ (x : Level). x.0) e in omega arith)
 
-  longest-eq : (k : ℕ) → k < max_resources → largest_below w (level i) (λ l. w.c l (resource k)) ≡ largest_below v (level i) (λ l. v.c l (resource k))
-  longest-eq k r =
+  longest_eq : (k : ℕ) → k < max_resources → largest_below w (level i) (λ l. w.c l (resource k)) ≡ largest_below v (level i) (λ l. v.c l (resource k))
+  longest_eq k r =
       let each : (l : ℕ) → l < v.n → only (is_above (level i) (level l)) (w.c (level l) (resource k)) ≡ only (is_above (level i) (level l)) (v.c (level l) (resource k)) =
       λ l h. ap (only (is_above (level i) (level l))) (o.c l k h r tt) in
       le_antisymm
@@ -46,16 +46,16 @@ module _ (j : Level) (v w : View) (o : OnlyRun j v w) (i : ℕ) (hi : i < v.n) (
   unfolding AgreeOn shared_CT other_CT all_CT high_CT
   same_above processors = o.cpus
   same_above tasks = o.n
-  same_above run = run-eq i hi above
+  same_above run = run_eq i hi above
   same_above deadline = o.D i hi tt
   same_above requests = λ k r. o.N i k hi r tt
   same_above period_above = λ l h a read. o.T l h tt
   same_above deadline_above = λ l h a read. o.D l h tt
-  same_above shared = λ l h a. locks-eq (uses v (level i)) (uses w (level i)) (λ k r. uses-eq i k hi r) l h
-  same_above other = λ m l h a. locks-eq (λ k. not (uses v (level i) k)) (λ k. not (uses w (level i) k)) (λ k r. ap not (uses-eq i k hi r)) l h
-  same_above free = λ m l h a. ap₂ ◌-◌ (run-eq l h (omega arith)) (sum_eq max_resources _ _ (λ k r. o.CT l k h r tt))
+  same_above shared = λ l h a. locks_eq (uses v (level i)) (uses w (level i)) (λ k r. uses_eq i k hi r) l h
+  same_above other = λ m l h a. locks_eq (λ k. not (uses v (level i) k)) (λ k. not (uses w (level i) k)) (λ k r. ap not (uses_eq i k hi r)) l h
+  same_above free = λ m l h a. ap₂ ◌-◌ (run_eq l h (omega arith)) (sum_eq max_resources _ _ (λ k r. o.CT l k h r tt))
   same_above period_below = λ l h a read. o.T l h tt
   same_above deadline_below = λ l h a read. o.D l h tt
   same_above high = λ m l h a.
-      locks-eq (λ k. is_above (ceiling v k) (level i)) (λ k. is_above (ceiling w k) (level i)) (λ k r. ap (λ x. is_above x (level i)) (ceiling-eq k r)) l h
-  same_above longest = λ k r u. longest-eq k r
+      locks_eq (λ k. is_above (ceiling v k) (level i)) (λ k. is_above (ceiling w k) (level i)) (λ k r. ap (λ x. is_above x (level i)) (ceiling_eq k r)) l h
+  same_above longest = λ k r u. longest_eq k r

@@ -33,8 +33,8 @@ use Rattle.promises.specs.Reads.{Above, Reads, FigureKind, processors, tasks, ru
 use Rattle.promises.proofs.Demand2Holds.{demand2}
 use Rattle.promises.proofs.ThreeTasks.{some_allowed}
 use Rattle.promises.proofs.RoundsHold.{rounds_hold}
-use Rattle.promises.proofs.ReadsLaws.{fine_fitting, units-read, read-units}
-use Rattle.promises.proofs.SameReadLaws.{demand-same, units-same}
+use Rattle.promises.proofs.ReadsLaws.{fine_fitting, units_read_lem, read_units}
+use Rattle.promises.proofs.SameReadLaws.{demand_same, units_same}
 use Rattle.promises.proofs.OnlyRunLaws.{same_above}
 use Rattle.promises.proofs.EachReadHolds.{each_read}
 
@@ -43,7 +43,7 @@ same : SameAnswers SameRead
 unfolding bound_of bound_fault counted_by AgreeOn
 same a b i r h allowance =
     let q = r.related in
-    let demand = demand-same (merged_view a) (merged_view b) (fine_fitting a r.first) (level i) q in
+    let demand = demand_same (merged_view a) (merged_view b) (fine_fitting a r.first) (level i) q in
     let counted : counted_in b allowance (level i) ≡ counted_in a allowance (level i) = λ x. counted_from (λ t. demand t x) (q deadline x) allowance (q run x) in
     let fault : bound_fault b (level i) allowance ≡ bound_fault a (level i) allowance = rw (r.first, r.second, q tasks) in
     ap₂ (λ c k. or_answer c (Known k)) fault counted
@@ -61,7 +61,7 @@ run_below j a b i r h =
 
 reads_units : (t : Table) (i l : ℕ) → table_fault t ≡ Fine → l < t.n
     → Reads (merged_view t) (level i) (level l) exactly_if (1 ≤ units_read (merged_view t) (level i) (level l))
-reads_units t i l e h = (read-units (merged_view t) (fine_fitting t e) (level i) l h, units-read (merged_view t) (fine_fitting t e) (level i) l h)
+reads_units t i l e h = (read_units (merged_view t) (fine_fitting t e) (level i) l h, units_read_lem (merged_view t) (fine_fitting t e) (level i) l h)
 
 read_in_both : (a b : Table) (i l : ℕ) → Related (λ v w. SameRead v w (level i)) a b → l < a.n
     → Reads (merged_view a) (level i) (level l) exactly_if Reads (merged_view b) (level i) (level l)
@@ -69,7 +69,7 @@ unfolding AgreeOn
 read_in_both a b i l r h =
     let p = reads_units a i l r.first h in
     let q = reads_units b i l r.second (omega (arith, r.related tasks)) in
-    let e = units-same (merged_view a) (merged_view b) (level i) r.related l h in
+    let e = units_same (merged_view a) (merged_view b) (level i) r.related l h in
     (λ x. q.1 (rw e (p.0 x)), λ x. p.1 (rw e at (q.0 x)))
 
 -- ---- that no kind can be left out

@@ -25,7 +25,7 @@ use Rattle.table.specs.Rules.{has_group, has_alpha, table_fault}
 use Rattle.table.specs.Refusals.{CallsFor}
 use Rattle.table.proofs.Deciding.{one_number, is_rule, from_rule, from_two, by_first, fails}
 use Rattle.table.proofs.RuleFacts.{range_is}
-use Rattle.table.proofs.GroupLaws.{not_true, not_false, no-group-is, group-is}
+use Rattle.table.proofs.GroupLaws.{not_true, not_false, no_group_is, group_is}
 use Rattle.table.proofs.RuleLaws.{unless_fine}
 use Rattle.table.proofs.Acceptance.{fine_accepted, accepted_fine}
 use Rattle.table.proofs.Called.{refused_as_called as table-refused}
@@ -41,7 +41,7 @@ use Rattle.analysis.specs.declared.Answer.TheVariants.{Known, Unknown}
 use Rattle.analysis.specs.Answers.{bound_fault, bound_of, or_answer, analysis_fault}
 use Rattle.waits.specs.declared.Waiting.TheVariants.{For, NoAlpha, Unknown as UnknownWait}
 use Rattle.waits.specs.Answers.{wait_in, wait_fault, or_waiting, wait_answer, waits_after, all_waits}
-use Rattle.merging.proofs.ReadLaws.{read-own}
+use Rattle.merging.proofs.ReadLaws.{read_own}
 use Rattle.promises.specs.Refusals.{BoundCallsFor, WaitCallsFor, RowCallsFor, OutputCallsFor, ArchivingCallsFor, NotKnown, NotWaiting, NotWrote, FirstDecides}
 
 module _ (t : Table) {k p : ℕ} where
@@ -67,35 +67,35 @@ outside_fails n i (inr h) = within_high 1 n i h
 -- ---- a task
 
 module _ (t : Table) (i : Level) (allowance : ℕ) where
-  bound-called : (k p : ℕ) → Refuses (bound_fault t i allowance) k p → BoundCallsFor t i allowance k p
+  bound_called : (k p : ℕ) → Refuses (bound_fault t i allowance) k p → BoundCallsFor t i allowance k p
   unfolding bound_fault
-  bound-called k p =
+  bound_called k p =
       from_two (table_fault t) _ k p (λ x. BoundCallsFor.own (called t x))
       (λ a. from_two (unless (within 1 t.n i.0) UnknownTask 0) (unless (leb 1 allowance) NoRounds 0) k p
       (from_rule (BoundCallsFor t i allowance) (within 1 t.n i.0) UnknownTask 0 k p (λ e. BoundCallsFor.unknown_task (fine_accepted t a) (outside t.n i.0 e)))
       (λ b. from_rule (BoundCallsFor t i allowance) (leb 1 allowance) NoRounds 0 k p
       (λ e. BoundCallsFor.no_rounds (fine_accepted t a) ((range_is 1 t.n i.0).0 (unless_fine _ UnknownTask 0 b)) (omega (arith, fails _ (le-leb 1 allowance) e)))))
 
-  bound-given : {k p : ℕ} → BoundCallsFor t i allowance k p → Refuses (bound_fault t i allowance) k p
+  bound_given : {k p : ℕ} → BoundCallsFor t i allowance k p → Refuses (bound_fault t i allowance) k p
   unfolding bound_fault
-  bound-given (BoundCallsFor.own x) = by_first (table_fault t) _ _ _ (given t x)
-  bound-given (BoundCallsFor.unknown_task a h) = rw (accepted_fine t a) (by_first _ _ 10 0 (is_rule _ UnknownTask 0 (outside_fails t.n i.0 h)))
-  bound-given (BoundCallsFor.no_rounds a r e) =
+  bound_given (BoundCallsFor.own x) = by_first (table_fault t) _ _ _ (given t x)
+  bound_given (BoundCallsFor.unknown_task a h) = rw (accepted_fine t a) (by_first _ _ 10 0 (is_rule _ UnknownTask 0 (outside_fails t.n i.0 h)))
+  bound_given (BoundCallsFor.no_rounds a r e) =
       rw (accepted_fine t a, (range_is 1 t.n i.0).1 r) (is_rule _ NoRounds 0 (lt-leb 1 allowance (omega arith)))
 
 -- ---- a wait
 
 module _ (t : Table) (i : Level) where
-  wait-called : (k p : ℕ) → Refuses (wait_fault t i) k p → WaitCallsFor t i k p
+  wait_called : (k p : ℕ) → Refuses (wait_fault t i) k p → WaitCallsFor t i k p
   unfolding wait_fault
-  wait-called k p =
+  wait_called k p =
       from_two (table_fault t) _ k p (λ x. WaitCallsFor.own (called t x))
       (λ a. from_rule (WaitCallsFor t i) (within 1 t.n i.0) UnknownTask 0 k p (λ e. WaitCallsFor.unknown_task (fine_accepted t a) (outside t.n i.0 e)))
 
-  wait-given : {k p : ℕ} → WaitCallsFor t i k p → Refuses (wait_fault t i) k p
+  wait_given : {k p : ℕ} → WaitCallsFor t i k p → Refuses (wait_fault t i) k p
   unfolding wait_fault
-  wait-given (WaitCallsFor.own x) = by_first (table_fault t) _ _ _ (given t x)
-  wait-given (WaitCallsFor.unknown_task a h) = rw (accepted_fine t a) (is_rule _ UnknownTask 0 (outside_fails t.n i.0 h))
+  wait_given (WaitCallsFor.own x) = by_first (table_fault t) _ _ _ (given t x)
+  wait_given (WaitCallsFor.unknown_task a h) = rw (accepted_fine t a) (is_rule _ UnknownTask 0 (outside_fails t.n i.0 h))
 
 -- of all waits the answer is the check's
 waits_checked : (t : Table) → (all_waits t).answer ≡ table_fault t
@@ -109,33 +109,33 @@ waits_checked t = go (table_fault t)
 -- ---- a row
 
 module _ (t : Table) (allowance room : ℕ) where
-  row-called : (k p : ℕ) → Refuses (analysis_fault t allowance room) k p → RowCallsFor t allowance room k p
+  row_called : (k p : ℕ) → Refuses (analysis_fault t allowance room) k p → RowCallsFor t allowance room k p
   unfolding analysis_fault
-  row-called k p =
+  row_called k p =
       from_two (table_fault t) _ k p (λ x. RowCallsFor.own (called t x))
       (λ a. from_two (unless (leb 1 allowance) NoRounds 0) (unless (leb t.n room) TooShort 0) k p
       (from_rule (RowCallsFor t allowance room) (leb 1 allowance) NoRounds 0 k p (λ e. RowCallsFor.no_rounds (fine_accepted t a) (omega (arith, fails _ (le-leb 1 allowance) e))))
       (λ b. from_rule (RowCallsFor t allowance room) (leb t.n room) TooShort 0 k p
       (λ e. RowCallsFor.too_short (fine_accepted t a) (leb-true 1 allowance (unless_fine _ NoRounds 0 b)) (omega (arith, fails _ (le-leb t.n room) e)))))
 
-  row-given : {k p : ℕ} → RowCallsFor t allowance room k p → Refuses (analysis_fault t allowance room) k p
+  row_given : {k p : ℕ} → RowCallsFor t allowance room k p → Refuses (analysis_fault t allowance room) k p
   unfolding analysis_fault
-  row-given (RowCallsFor.own x) = by_first (table_fault t) _ _ _ (given t x)
-  row-given (RowCallsFor.no_rounds a e) = rw (accepted_fine t a) (by_first _ _ 16 0 (is_rule _ NoRounds 0 (lt-leb 1 allowance (omega arith))))
-  row-given (RowCallsFor.too_short a h l) = rw (accepted_fine t a, le-leb 1 allowance h) (is_rule _ TooShort 0 (lt-leb t.n room l))
+  row_given (RowCallsFor.own x) = by_first (table_fault t) _ _ _ (given t x)
+  row_given (RowCallsFor.no_rounds a e) = rw (accepted_fine t a) (by_first _ _ 16 0 (is_rule _ NoRounds 0 (lt-leb 1 allowance (omega arith))))
+  row_given (RowCallsFor.too_short a h l) = rw (accepted_fine t a, le-leb 1 allowance h) (is_rule _ TooShort 0 (lt-leb t.n room l))
 
 -- ---- an output
 
 module _ (t : Table) (needed room : ℕ) where
-  output-called : (k p : ℕ) → Refuses (table_fault t then unless (leb needed room) TooShort 0) k p → OutputCallsFor t needed room k p
-  output-called k p =
+  output_called : (k p : ℕ) → Refuses (table_fault t then unless (leb needed room) TooShort 0) k p → OutputCallsFor t needed room k p
+  output_called k p =
       from_two (table_fault t) _ k p (λ x. OutputCallsFor.own (called t x))
       (λ a. from_rule (OutputCallsFor t needed room) (leb needed room) TooShort 0 k p
       (λ e. OutputCallsFor.too_short (fine_accepted t a) (omega (arith, fails _ (le-leb needed room) e))))
 
-  output-given : {k p : ℕ} → OutputCallsFor t needed room k p → Refuses (table_fault t then unless (leb needed room) TooShort 0) k p
-  output-given (OutputCallsFor.own x) = by_first (table_fault t) _ _ _ (given t x)
-  output-given (OutputCallsFor.too_short a h) = rw (accepted_fine t a) (is_rule _ TooShort 0 (lt-leb needed room h))
+  output_given : {k p : ℕ} → OutputCallsFor t needed room k p → Refuses (table_fault t then unless (leb needed room) TooShort 0) k p
+  output_given (OutputCallsFor.own x) = by_first (table_fault t) _ _ _ (given t x)
+  output_given (OutputCallsFor.too_short a h) = rw (accepted_fine t a) (is_rule _ TooShort 0 (lt-leb needed room h))
 
 -- ---- an archive
 
@@ -143,22 +143,22 @@ module _ (t : Table) (room : ℕ) where
   abbrev grouped : Checked
   grouped = unless (not (has_group t.groups)) HasGroup 0
 
-  archiving-called : (k p : ℕ) → Refuses (archiving_fault t room) k p → ArchivingCallsFor t room k p
+  archiving_called : (k p : ℕ) → Refuses (archiving_fault t room) k p → ArchivingCallsFor t room k p
   unfolding archiving_fault
-  archiving-called k p =
+  archiving_called k p =
       from_two (table_fault t) _ k p (λ x. ArchivingCallsFor.own (called t x))
       (λ a. from_two grouped (unless (leb (block_size * t.n) room) TooShort 0) k p
       (from_rule (ArchivingCallsFor t room) (not (has_group t.groups)) HasGroup 0 k p
-      (λ e. let z = (group-is t).0 (not_false _ e) in ArchivingCallsFor.has_group_reads (fine_accepted t a) z.0 z.1 z.2))
+      (λ e. let z = (group_is t).0 (not_false _ e) in ArchivingCallsFor.has_group_reads (fine_accepted t a) z.0 z.1 z.2))
       (λ b. from_rule (ArchivingCallsFor t room) (leb (block_size * t.n) room) TooShort 0 k p
-      (λ e. ArchivingCallsFor.too_short (fine_accepted t a) ((no-group-is t).0 (not_true _ (unless_fine _ HasGroup 0 b))) (omega (arith, fails _ (le-leb (block_size * t.n) room) e)))))
+      (λ e. ArchivingCallsFor.too_short (fine_accepted t a) ((no_group_is t).0 (not_true _ (unless_fine _ HasGroup 0 b))) (omega (arith, fails _ (le-leb (block_size * t.n) room) e)))))
 
-  archiving-given : {k p : ℕ} → ArchivingCallsFor t room k p → Refuses (archiving_fault t room) k p
+  archiving_given : {k p : ℕ} → ArchivingCallsFor t room k p → Refuses (archiving_fault t room) k p
   unfolding archiving_fault
-  archiving-given (ArchivingCallsFor.own x) = by_first (table_fault t) _ _ _ (given t x)
-  archiving-given (ArchivingCallsFor.has_group_reads a k h l) = rw (accepted_fine t a) (by_first grouped _ 20 0 (is_rule (not (has_group t.groups)) HasGroup 0 (ap not ((group-is t).1 (k, h, l)))))
-  archiving-given (ArchivingCallsFor.too_short a z h) =
-      rw (accepted_fine t a, (no-group-is t).1 z) (is_rule _ TooShort 0 (lt-leb (block_size * t.n) room h))
+  archiving_given (ArchivingCallsFor.own x) = by_first (table_fault t) _ _ _ (given t x)
+  archiving_given (ArchivingCallsFor.has_group_reads a k h l) = rw (accepted_fine t a) (by_first grouped _ 20 0 (is_rule (not (has_group t.groups)) HasGroup 0 (ap not ((group_is t).1 (k, h, l)))))
+  archiving_given (ArchivingCallsFor.too_short a z h) =
+      rw (accepted_fine t a, (no_group_is t).1 z) (is_rule _ TooShort 0 (lt-leb (block_size * t.n) room h))
 
 -- ---- from a check to what is answered by it
 
@@ -197,11 +197,11 @@ first_decides =
       card = archive-refused;
       salvage = salvaged_as_called;
       salvage_answer_told = λ s entries room k p. both (not_written_is _ (salvage_fault s entries room) k p) (salvaged_as_called.refused s entries room k p);
-      merge = λ t k p. rw (read-own t refl) (table-refused.refused t k p);
-      bound = λ t i allowance k p. both (unknown_is _ (bound_fault t i allowance) k p) (bound-called t i allowance k p, bound-given t i allowance);
-      wait = λ t i k p. both (not_waiting_is (has_alpha t 0) (wait_in t i) (wait_fault t i) k p) (wait-called t i k p, wait-given t i);
+      merge = λ t k p. rw (read_own t refl) (table-refused.refused t k p);
+      bound = λ t i allowance k p. both (unknown_is _ (bound_fault t i allowance) k p) (bound_called t i allowance k p, bound_given t i allowance);
+      wait = λ t i k p. both (not_waiting_is (has_alpha t 0) (wait_in t i) (wait_fault t i) k p) (wait_called t i k p, wait_given t i);
       waits = λ t k p. rw waits_checked (table-refused.refused t k p);
-      row = λ t allowance room k p. (row-called t allowance room k p, row-given t allowance room);
-      output = λ t room k p. both (not_written_is _ (write_fault t room) k p) (output-called t (length (text_of t)) room k p, output-given t (length (text_of t)) room);
-      archiving = λ t room k p. both (not_written_is _ (archiving_fault t room) k p) (archiving-called t room k p, archiving-given t room);
+      row = λ t allowance room k p. (row_called t allowance room k p, row_given t allowance room);
+      output = λ t room k p. both (not_written_is _ (write_fault t room) k p) (output_called t (length (text_of t)) room k p, output_given t (length (text_of t)) room);
+      archiving = λ t room k p. both (not_written_is _ (archiving_fault t room) k p) (archiving_called t room k p, archiving_given t room);
     }

@@ -42,7 +42,7 @@ use Rattle.schedules.proofs.ShownHolds.{shown_holds}
 use Rattle.schedules.proofs.MissHolds.{miss_holds}
 use Rattle.analysis.specs.declared.Answer.TheVariants.{Known}
 use Rattle.analysis.specs.Answers.{bound_of}
-use Rattle.analysis.proofs.ByRounds.{rounds-right, known}
+use Rattle.analysis.proofs.ByRounds.{rounds_right, known}
 use Rattle.page.specs.declared.Columns.{Columns}
 use Rattle.page.specs.declared.Columns.TheVariants.{Five}
 use Rattle.promises.specs.Demand2.{demand_in, deadline_in}
@@ -51,7 +51,7 @@ use Rattle.promises.specs.Responds.{NoJobLonger, RowsMeet, ReadNoOther, InTurn, 
 use Rattle.promises.proofs.Demand2Holds.{demand2}
 use Rattle.promises.proofs.RoundsHold.{rounds_hold}
 use Rattle.promises.proofs.ThreeTasks.{some_allowed}
-use Rattle.promises.proofs.ReadsLaws.{fine_fitting, units-read}
+use Rattle.promises.proofs.ReadsLaws.{fine_fitting, units_read_lem}
 
 no_requests : (N total : ℕ) → (1 ≤ total → ltb 0 N ≡ true) → N ≡ 0 → total ≡ 0
 no_requests N zero u z = refl
@@ -76,11 +76,11 @@ unfolding counted_by
 met_least t i allowance r u e m =
     let k = known t i allowance e in
     let v : (counted_in t allowance (level i)).verdict ≡ Meets u = ap (λ (c : Counted). c.verdict) k.3 ∙ m in
-    rw v at (rounds-right workload workload_rises (merged t) i (merged_bounds t k.0) k.1 allowance)
+    rw v at (rounds_right workload workload_rises (merged t) i (merged_bounds t k.0) k.1 allowance)
 
 -- a set of tasks that read no others is closed
 reads_closed : (t : Table) → table_fault t ≡ Fine → (X : ℕ → Type 0) → ReadNoOther t X → Closed (merged_view t) X
-reads_closed t fine X c i l h x k u = c i l h x k (units-read (merged_view t) (fine_fitting t fine) (level i) l k u)
+reads_closed t fine X c i l h x k u = c i l h x k (units_read_lem (merged_view t) (fine_fitting t fine) (level i) l k u)
 
 others_meet : (columns : Columns) (allowance : ℕ) (s : List ℕ) (t : Table) (row : ℕ → Counted) (X : ℕ → Type 0) (micros : ℕ → ℕ) → PrintsRows columns allowance s t row
     → ReadNoOther t X → RowsMeet t row X micros → NoJobLonger t X micros

@@ -22,11 +22,11 @@ use Rattle.theory.specs.Demand.{shared_CT, other_CT, all_CT, high_CT, DB, S, O, 
 use Rattle.theory.specs.Rounds.{counted_from}
 use Rattle.theory.specs.Tables.{merged_view, counted_by, counted_in}
 use Rattle.theory.proofs.WorkLaws.{workload_rises}
-use Rattle.theory.proofs.RoundLaws.{counts-unique}
-use Rattle.theory.proofs.AllowanceLaws.{open-rounds, settled-rounds, going-open, open-count, rounds-most}
+use Rattle.theory.proofs.RoundLaws.{counts_unique}
+use Rattle.theory.proofs.AllowanceLaws.{open_rounds, settled_rounds, going_open, open_count, rounds_most}
 use Rattle.analysis.specs.declared.Answer.TheVariants.{Known}
 use Rattle.analysis.specs.Answers.{bound_of}
-use Rattle.analysis.proofs.ByRounds.{rounds-end, under_more, bound_known, known}
+use Rattle.analysis.proofs.ByRounds.{rounds_end, under_more, bound_known, known}
 use Rattle.page.specs.declared.Columns.{Columns}
 use Rattle.page.specs.declared.Columns.TheVariants.{Five}
 use Rattle.page.specs.Report.{report_allowance, bench_allowance}
@@ -41,26 +41,26 @@ use Rattle.promises.proofs.Demand2Holds.{demand2}
 use Rattle.promises.proofs.ReportLaws.{report_accepted}
 use Rattle.promises.proofs.ThreeTasks.{some_allowed}
 use Rattle.promises.proofs.ComparedByTest.{at_most, equal, any, rules}
-use Rattle.promises.proofs.NotEmptyHolds.{related-by}
+use Rattle.promises.proofs.NotEmptyHolds.{related_by}
 use Rattle.promises.proofs.NoEasierHolds.{one}
 
 module _ (t : Table) (i : ℕ) (fine : table_fault t ≡ Fine) (h : i < t.n) where
   -- the count, and that it is at most D − C + 1
   end : (n : ℕ) × CountIn t i n × (n ≤ deadline_in t i - run_in t i + 1)
-  end = rounds-end workload workload_rises (merged t) i (merged_bounds t fine) h
+  end = rounds_end workload workload_rises (merged t) i (merged_bounds t fine) h
 
-  rounds-of : (allowance : ℕ) → RightRounds t i allowance (counted_in t allowance (level i))
+  rounds_of : (allowance : ℕ) → RightRounds t i allowance (counted_in t allowance (level i))
   unfolding counted_by
-  rounds-of allowance =
+  rounds_of allowance =
       record {
-        runs_out = (λ e. (open-rounds _ _ allowance _ e).1, going-open _ _ allowance _);
-        used_up = λ e. (open-rounds _ _ allowance _ e).0;
-        counted = λ q. (settled-rounds _ _ allowance _ q).1;
-        most = le_trans (rounds-most _ _ allowance _ end.0 end.1) end.2;
+        runs_out = (λ e. (open_rounds _ _ allowance _ e).1, going_open _ _ allowance _);
+        used_up = λ e. (open_rounds _ _ allowance _ e).0;
+        counted = λ q. (settled_rounds _ _ allowance _ q).1;
+        most = le_trans (rounds_most _ _ allowance _ end.0 end.1) end.2;
       }
 
 right : (t : Table) (i allowance : ℕ) (r : Counted) → bound_of t (level i) allowance ≡ Known r → RightRounds t i allowance r
-right t i allowance r e = let k = known t i allowance e in rw k.3 at (rounds-of t i k.0 k.1 allowance)
+right t i allowance r e = let k = known t i allowance e in rw k.3 at (rounds_of t i k.0 k.1 allowance)
 
 never_open : (t : Table) (i : ℕ) (r : Counted) → bound_of t (level i) report_allowance ≡ Known r → r.verdict ≡ Open → ⊥
 unfolding counted_by report_allowance
@@ -68,7 +68,7 @@ never_open t i r e o =
     let k = known t i report_allowance e in
     let c = end t i k.0 k.1 in
     let g = ((merged_bounds t k.0).task i k.1).times in
-    omega (arith, c.2, open-count _ _ report_allowance _ c.0 c.1 (ap (λ (r : Counted). r.verdict) k.3 ∙ o))
+    omega (arith, c.2, open_count _ _ report_allowance _ c.0 c.1 (ap (λ (r : Counted). r.verdict) k.3 ∙ o))
 
 -- what `report` answers of a task in the second is a bound, so there is one in the first, no larger, and it answers that
 kept : (a b : Table) → Related NoEasier a b → (i : ℕ) → i < a.n → (u n : ℕ) → bound_of b (level i) report_allowance ≡ Known (record { verdict = Meets u; rounds = n })
@@ -105,7 +105,7 @@ overtakes : Overtakes (on 2 tasks_A) (on 1 tasks_A) 2 bench_allowance 22_000 4
 unfolding bench_allowance on all_to rules sum_to max_to first_to first_fault times_in_range times_in_order times_fault is_unused used_in_range pair_in_range totals_fit pair_fault pairs_fault alpha_fault task_fault last_alpha tasks_fault table_fault uncapped workload jobs ceil_div ceiling shared_CT other_CT all_CT high_CT DB S O F L demand_with counted_from counted_by groups_in_range merged_tasks has_group
 overtakes =
     record {
-      harder = related-by at_most equal any refl refl refl;
+      harder = related_by at_most equal any refl refl refl;
       first = bound_known _ 2 5 refl (lit< tt) (lit≤ tt) ∙ ap Known refl;
       second = bound_known _ 2 5 refl (lit< tt) (lit≤ tt) ∙ ap Known refl;
     }
@@ -114,7 +114,7 @@ pub rounds_hold : Rounds
 rounds_hold =
     record {
       right = right;
-      count = λ t i fine h. let c = end t i fine h in (c.0, c.1, λ m d. counts-unique _ _ _ m c.0 d c.1, c.2);
+      count = λ t i fine h. let c = end t i fine h in (c.0, c.1, λ m d. counts_unique _ _ _ m c.0 d c.1, c.2);
       stays = λ t i A B r h e q.
           let k = known t i A e in
           bound_known t i B k.0 k.1 (le_trans k.2 h) ∙ ap Known (under_more t i A B h k.3 q);

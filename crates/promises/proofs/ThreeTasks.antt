@@ -41,13 +41,13 @@ missed k = record { verdict = Misses; rounds = k }
 
 -- what comes after k rounds comes under the allowance of `report`, if that is no less
 module _ (s : String) (i k : ℕ) (h : T (leb k 10_000_000)) where
-  pub meets-in : {u : ℕ} → counted_in (read_table s) k (level i) ≡ met u k → counted_in (read_table s) report_allowance (level i) ≡ met u k
+  pub meets_in : {u : ℕ} → counted_in (read_table s) k (level i) ≡ met u k → counted_in (read_table s) report_allowance (level i) ≡ met u k
   unfolding report_allowance
-  meets-in e = under_more (read_table s) i k report_allowance (leb→le k _ h) e (λ o. let z : ◌≡◌ {A = ℕ} 0 1 = cc in absurd (omega arith))
+  meets_in e = under_more (read_table s) i k report_allowance (leb→le k _ h) e (λ o. let z : ◌≡◌ {A = ℕ} 0 1 = cc in absurd (omega arith))
 
-  pub misses-in : counted_in (read_table s) k (level i) ≡ missed k → counted_in (read_table s) report_allowance (level i) ≡ missed k
+  pub misses_in : counted_in (read_table s) k (level i) ≡ missed k → counted_in (read_table s) report_allowance (level i) ≡ missed k
   unfolding report_allowance
-  misses-in e = under_more (read_table s) i k report_allowance (leb→le k _ h) e (λ o. let z : ◌≡◌ {A = ℕ} 0 1 = cc in absurd (omega arith))
+  misses_in e = under_more (read_table s) i k report_allowance (leb→le k _ h) e (λ o. let z : ◌≡◌ {A = ℕ} 0 1 = cc in absurd (omega arith))
 
 pub some_allowed : 1 ≤ report_allowance
 unfolding report_allowance

@@ -16,34 +16,34 @@ use Rattle.table.specs.Limits.{max_resources}
 use Rattle.theory.specs.View.{View, level, resource}
 use Rattle.theory.specs.Demand.{units_read}
 use Rattle.promises.specs.Reads.{Reads, longest, Unchanged, OnlyRun, SameWhereRead}
-use Rattle.promises.proofs.ReadsLaws.{Fitting, read-units}
-use Rattle.promises.proofs.AgreeByTest.{sameOf, Passed, same_of, agreesOn, agree-by}
+use Rattle.promises.proofs.ReadsLaws.{Fitting, read_units}
+use Rattle.promises.proofs.AgreeByTest.{same_of_test, Passed, same_of, agrees_on, agree_by}
 
 module _ (v w : View) where
   -- the same of each pair of each task that passes a test
-  abbrev samePairs : (ℕ → Bool) → (View → Level → Resource → ℕ) → Bool
-  samePairs t g = all_to max_resources (λ k. sameOf v w t (λ x l. g x l (resource k)))
+  abbrev same_pairs : (ℕ → Bool) → (View → Level → Resource → ℕ) → Bool
+  same_pairs t g = all_to max_resources (λ k. same_of_test v w t (λ x l. g x l (resource k)))
 
   -- the rules of `Unchanged`, in its order
   unfoldable pub unchanged : (ℕ → Bool) → (ℕ → Bool) → List Bool
   unchanged p q =
       eqb w.cpus v.cpus
       ∷ eqb w.n v.n
-      ∷ sameOf v w p (λ x. x.T)
-      ∷ sameOf v w q (λ x. x.C)
-      ∷ sameOf v w p (λ x. x.D)
-      ∷ samePairs p (λ x. x.N)
-      ∷ samePairs p (λ x. x.c)
-      ∷ samePairs p (λ x. x.CT)
+      ∷ same_of_test v w p (λ x. x.T)
+      ∷ same_of_test v w q (λ x. x.C)
+      ∷ same_of_test v w p (λ x. x.D)
+      ∷ same_pairs p (λ x. x.N)
+      ∷ same_pairs p (λ x. x.c)
+      ∷ same_pairs p (λ x. x.CT)
       ∷ []
 
-  pairs_of : (named : Level → Type 0) (t : ℕ → Bool) → Passed v w named t → (g : View → Level → Resource → ℕ) → samePairs t g ≡ true
+  pairs_of : (named : Level → Type 0) (t : ℕ → Bool) → Passed v w named t → (g : View → Level → Resource → ℕ) → same_pairs t g ≡ true
       → (l k : ℕ) → l < v.n → k < max_resources → named (level l) → g w (level l) (resource k) ≡ g v (level l) (resource k)
   pairs_of named t passed g e l k h r = same_of v w named t passed (λ x l. g x l (resource k)) (all_at max_resources k _ e r) l h
 
-  pub unchanged-by : (rest runs : Level → Type 0) (p q : ℕ → Bool) → Passed v w rest p → Passed v w runs q → all_to 8 (λ r. get_or (unchanged p q) r true) ≡ true → Unchanged rest runs v w
+  pub unchanged_by : (rest runs : Level → Type 0) (p q : ℕ → Bool) → Passed v w rest p → Passed v w runs q → all_to 8 (λ r. get_or (unchanged p q) r true) ≡ true → Unchanged rest runs v w
   unfolding unchanged
-  unchanged-by rest runs p q a b e =
+  unchanged_by rest runs p q a b e =
       let rule : (r : ℕ) → T (ltb r 8) → get_or (unchanged p q) r true ≡ true = λ r h. all_at 8 r _ e (lit< h) in
       record {
         cpus = eqb-true _ _ (rule 0 tt);
@@ -57,21 +57,21 @@ module _ (v w : View) where
       }
 
   -- all but the run time of task j
-  abbrev isOther : Level → ℕ → Bool
-  isOther j l = not (eqb (suc l) j.0)
+  abbrev is_other : Level → ℕ → Bool
+  is_other j l = not (eqb (suc l) j.0)
 
-  pub only-run-by : (j : Level) → all_to 8 (λ r. get_or (unchanged (λ l. true) (isOther j)) r true) ≡ true → OnlyRun j v w
-  only-run-by j =
-      unchanged-by _ _ (λ l. true) (isOther j) (λ l h n. refl)
+  pub only_run_by : (j : Level) → all_to 8 (λ r. get_or (unchanged (λ l. true) (is_other j)) r true) ≡ true → OnlyRun j v w
+  only_run_by j =
+      unchanged_by _ _ (λ l. true) (is_other j) (λ l h n. refl)
       (λ l h d. ap not (ne_eqb (suc l) j.0 (λ e. d (ap (λ (x : ℕ). record { 0 = x }) e))))
 
   -- i, and the tasks that it reads
-  abbrev isNamed : Level → ℕ → Bool
-  isNamed i l = eqb (suc l) i.0 || ltb 0 (units_read v i (level l))
+  abbrev is_named : Level → ℕ → Bool
+  is_named i l = eqb (suc l) i.0 || ltb 0 (units_read v i (level l))
 
-  named-is : Fitting v → (i : Level) → Passed v w (λ l. (l ≡ i) ⊎ Reads v i l) (isNamed i)
-  named-is fits i l h (inl e) = rw (eq-eqb (suc l) i.0 (ap (λ (x : Level). x.0) e))
-  named-is fits i l h (inr r) = rw (lt-ltb 0 (units_read v i (level l)) (read-units v fits i l h r), or-true (eqb (suc l) i.0))
+  named_is : Fitting v → (i : Level) → Passed v w (λ l. (l ≡ i) ⊎ Reads v i l) (is_named i)
+  named_is fits i l h (inl e) = rw (eq-eqb (suc l) i.0 (ap (λ (x : Level). x.0) e))
+  named_is fits i l h (inr r) = rw (lt-ltb 0 (units_read v i (level l)) (read_units v fits i l h r), or-true (eqb (suc l) i.0))
 
-  pub where-read-by : Fitting v → (i : Level) → all_to 8 (λ r. get_or (unchanged (isNamed i) (isNamed i)) r true) ≡ true → agreesOn v w i longest ≡ true → SameWhereRead v w i
-  where-read-by fits i e f = (unchanged-by _ _ (isNamed i) (isNamed i) (named-is fits i) (named-is fits i) e, agree-by v w i fits longest f)
+  pub where_read_by : Fitting v → (i : Level) → all_to 8 (λ r. get_or (unchanged (is_named i) (is_named i)) r true) ≡ true → agrees_on v w i longest ≡ true → SameWhereRead v w i
+  where_read_by fits i e f = (unchanged_by _ _ (is_named i) (is_named i) (named_is fits i) (named_is fits i) e, agree_by v w i fits longest f)

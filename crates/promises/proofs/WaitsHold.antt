@@ -84,13 +84,13 @@ module _ (t : Table) (fine : table_fault t ≡ Fine) where
         all_or_none_reads = either t fine;
         wait = λ a i h. rw (known i h, has t some a);
         no_wait = λ z i h. rw (known i h, has_none t some z);
-        given = (λ g. only-with (either t fine) g, λ a. rw (fine, has t some a));
+        given = (λ g. only_with (either t fine) g, λ a. rw (fine, has t some a));
         all = λ a i h. rw (fine, has t some a) (row_at max_tasks i (slot_wait t) 0 (omega (arith, (fine_accepted t fine).tasks_most)) ∙ rw (lt-ltb i t.n h));
       }
     where
-      only-with : HaveAlpha t ⊎ NoAlpha t → (all_waits t).given ≡ true → HaveAlpha t
-      only-with (inl a) g = a
-      only-with (inr z) g = let x : false ≡ true = rw (fine, has_none t some z) at g in let y : ◌≡◌ {A = ℕ} 0 1 = cc in absurd (omega arith)
+      only_with : HaveAlpha t ⊎ NoAlpha t → (all_waits t).given ≡ true → HaveAlpha t
+      only_with (inl a) g = a
+      only_with (inr z) g = let x : false ≡ true = rw (fine, has_none t some z) at g in let y : ◌≡◌ {A = ℕ} 0 1 = cc in absurd (omega arith)
 
 -- ---- what is printed
 

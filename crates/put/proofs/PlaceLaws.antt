@@ -2,7 +2,7 @@
 --     filled_here, -within        an output is filled with itself up to any place; a filling is within it
 --     filled_put, filled_field    the rest is lent to a writer, behind a space too
 --     PutAt, put_is, filled_at    what is put at a place, and what that makes of an output that is filled up to it
---     at-short, at-filled         what a writer at a place answers
+--     at_short, at_filled         what a writer at a place answers
 --     at_all                      and what its answer says to a caller that has the room
 -- Assumes nothing.
 use Prim.Native.Nat.{ℕ, ◌+◌, ◌≤◌, ◌<◌}
@@ -63,11 +63,11 @@ filled_at {o} {o₁} {o₂} {p} {a} {r} f t l e =
 -- ---- the writer's answer
 
 module _ (t o : List ℕ) (a : ℕ) where
-  pub at-short : length o < a + length t → (Short ≡ put_answer_at t a o) × (o ≡ put_at t a o)
-  at-short h = let l = lt-leb (a + length t) (length o) h in (rw l, rw l)
+  pub at_short : length o < a + length t → (Short ≡ put_answer_at t a o) × (o ≡ put_at t a o)
+  at_short h = let l = lt-leb (a + length t) (length o) h in (rw l, rw l)
 
-  pub at-filled : {o₁ : List ℕ} {r n : ℕ} → a ≤ length o → Filled o o₁ (take a o ++ t) r → n ≡ length t → (Wrote n ≡ put_answer_at t a o) × (o₁ ≡ put_at t a o)
-  at-filled {o₁} {r} h f e =
+  pub at_filled : {o₁ : List ℕ} {r n : ℕ} → a ≤ length o → Filled o o₁ (take a o ++ t) r → n ≡ length t → (Wrote n ≡ put_answer_at t a o) × (o₁ ≡ put_at t a o)
+  at_filled {o₁} {r} h f e =
       let p = put_is a r t h f in
       let l = le-leb (a + length t) (length o) (omega (arith, p.0, filled_within f)) in
       (rw (l, e), rw (l, ← p.0) p.1)

@@ -26,8 +26,8 @@ put_filled {o} {o₁} {t} {n} f h =
 
 -- what a writer's answer says to its caller
 module _ (t o : List ℕ) {o₁ : List ℕ} where
-  pub short-is : Short ≡ put_answer t o → o₁ ≡ put_into t o → (length o < length t) × (o₁ ≡ o)
-  short-is = go (leb (length t) (length o)) refl
+  pub short_is : Short ≡ put_answer t o → o₁ ≡ put_into t o → (length o < length t) × (o₁ ≡ o)
+  short_is = go (leb (length t) (length o)) refl
     where
       go : (b : Bool) → leb (length t) (length o) ≡ b → Short ≡ pick b (Wrote (length t)) Short → o₁ ≡ pick b (t ++ drop (length t) o) o → (length o < length t) × (o₁ ≡ o)
       go true e a h = let z : ◌≡◌ {A = ℕ} 0 1 = cc in absurd (omega arith)

@@ -75,12 +75,12 @@ pub digit_put : (out : List ℕ) (rest i : ℕ) → 0 < i → i ≤ length out
 digit_put out rest zero h l = absurd (omega arith)
 digit_put out rest (suc j) h l =
     let e : suc j - 1 ≡ j = omega arith in
-    rw (e, drop-set out j (48 + rest % 10) l, append_assoc)
+    rw (e, drop_set out j (48 + rest % 10) l, append_assoc)
   where
-    drop-set : (l : List ℕ) (j v : ℕ) → j < length l → drop j (set l j v) ≡ v ∷ drop (suc j) l
-    drop-set [] j v h = absurd (omega arith)
-    drop-set (x ∷ l) zero v h = refl
-    drop-set (x ∷ l) (suc j) v h = drop-set l j v (omega arith)
+    drop_set : (l : List ℕ) (j v : ℕ) → j < length l → drop j (set l j v) ≡ v ∷ drop (suc j) l
+    drop_set [] j v h = absurd (omega arith)
+    drop_set (x ∷ l) zero v h = refl
+    drop_set (x ∷ l) (suc j) v h = drop_set l j v (omega arith)
 
 pub digit_done : (out t : List ℕ) (rest i : ℕ) → i ≤ 0 → digits_of i rest ++ drop i out ≡ t → out ≡ t
 digit_done out t rest zero h e = e

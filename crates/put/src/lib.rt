@@ -1,10 +1,12 @@
 // Texts, counts and times, written at the start of an output; and a space and a count, at any place of it.
+#![tactic(auto)]
+
 ghost use Rattle.std.specs.Prelude.{◌≡◌, ◌∷◌, ◌++◌, ◌≤◌, ◌<◌, length, drop};
 ghost use Rattle.basics.specs.Text.{put_into};
 ghost use Rattle.put.specs.Text.{width, digits_of, trim, pointed, count_text, time_text, put_answer, put_answer_at, put_at, put_length};
 
 // How many bytes were written, or that nothing was, since the output is too short, and it is as it was.
-#[derive(Drop)]
+#[derive(Clone, Copy)]
 pub enum Put {
     Wrote(usize),
     Short,
@@ -23,7 +25,7 @@ impl Put {
 }
 
 // So many digits of a number.
-#[derive(Drop)]
+#[derive(Clone, Copy)]
 struct Digits {
     value: u32,
     count: usize,

@@ -24,29 +24,29 @@ use Rattle.card.specs.Archive.{blocks_in, table_in}
 use Rattle.salvaging.specs.Fates.{codes_of}
 use Rattle.salvaging.specs.Salvage.{is_complete, is_card, has_room, room_fault, left_fault, salvage_fault, mended}
 use Rattle.recovery.specs.Refusals.{WholeCard, Complete, Ordered, Room, CallsFor, bad_card, too_short, incomplete, table, SalvagedAsCalled}
-use Rattle.recovery.proofs.LeftLaws.{becomes, fate-is}
-use Rattle.recovery.proofs.CardLaws.{card_blocks, card-is, is-card, room_is, is-room, room_fits, room-fine, fine-sound, sound-fine}
-use Rattle.recovery.proofs.Complete.{complete-is, is-complete, mended-length, ordered}
+use Rattle.recovery.proofs.LeftLaws.{becomes, fate_is}
+use Rattle.recovery.proofs.CardLaws.{card_blocks, card_is, is_card_lem, room_is, is_room, room_fits, room_fine, fine_sound, sound_fine}
+use Rattle.recovery.proofs.Complete.{complete_is, is_complete_lem, mended_length, ordered}
 
 module _ (s : List ℕ) (entries room : ℕ) where
-  abbrev ownFault : Checked
-  ownFault = table_fault (table_in (mended s))
+  abbrev own_fault : Checked
+  own_fault = table_fault (table_in (mended s))
 
   -- ---- room
 
   abbrev Short : Type 0
   Short = (entries < blocks_in s) ⊎ (room < length s)
 
-  short-is : has_room (length s) entries room ≡ false → Short
-  short-is e = go (dec_lt entries (blocks_in s)) (dec_lt room (length s))
+  short_is : has_room (length s) entries room ≡ false → Short
+  short_is e = go (dec_lt entries (blocks_in s)) (dec_lt room (length s))
     where
       go : Dec (entries < blocks_in s) → Dec (room < length s) → Short
       go (yes d) x = inl d
       go (no d) (yes x) = inr x
-      go (no d) (no x) = absurd (fails (has_room (length s) entries room) (is-room s entries room) e (omega arith, omega arith))
+      go (no d) (no x) = absurd (fails (has_room (length s) entries room) (is_room s entries room) e (omega arith, omega arith))
 
-  is-short : Short → has_room (length s) entries room ≡ false
-  is-short x = failing (has_room (length s) entries room) (room_is s entries room) (go x)
+  is_short : Short → has_room (length s) entries room ≡ false
+  is_short x = failing (has_room (length s) entries room) (room_is s entries room) (go x)
     where
       go : Short → Room s (blocks_in s) entries room → ⊥
       go (inl h) r = omega arith
@@ -54,102 +54,102 @@ module _ (s : List ℕ) (entries room : ℕ) where
 
   -- ---- what is given is called for
 
-  room-calls : (k p : ℕ) → Refuses (room_fault (length s) entries room) k p → CallsFor s entries room k p
+  room_calls : (k p : ℕ) → Refuses (room_fault (length s) entries room) k p → CallsFor s entries room k p
   unfolding room_fault
-  room-calls k p =
+  room_calls k p =
       from_two (unless (is_card (length s)) BadCard 0) (unless (has_room (length s) entries room) TooShort 0) k p
-      (from_rule (CallsFor s entries room) (is_card (length s)) BadCard 0 k p (λ e. bad_card (λ n. fails _ (is-card s n) e)))
+      (from_rule (CallsFor s entries room) (is_card (length s)) BadCard 0 k p (λ e. bad_card (λ n. fails _ (is_card_lem s n) e)))
       (λ f. from_rule (CallsFor s entries room) (has_room (length s) entries room) TooShort 0 k p
-      (λ e. too_short (blocks_in s) (card-is s (unless_fine _ BadCard 0 f)) (short-is e)))
+      (λ e. too_short (blocks_in s) (card_is s (unless_fine _ BadCard 0 f)) (short_is e)))
 
-  left-calls : WholeCard s (blocks_in s) → Room s (blocks_in s) entries room → (k p : ℕ) → Refuses (left_fault s (codes_of s)) k p → CallsFor s entries room k p
+  left_calls : WholeCard s (blocks_in s) → Room s (blocks_in s) entries room → (k p : ℕ) → Refuses (left_fault s (codes_of s)) k p → CallsFor s entries room k p
   unfolding left_fault mended
-  left-calls w fits k p =
-      from_two (unless (is_complete s (codes_of s)) Mismatch 0) ownFault k p
-      (from_rule (CallsFor s entries room) (is_complete s (codes_of s)) Mismatch 0 k p (λ e. incomplete (blocks_in s) w fits (λ n. fails _ (is-complete s n) e)))
-      (λ f x. let c = complete-is s (unless_fine _ Mismatch 0 f) in table (blocks_in s) _ (mended s) w fits c ((ordered s (mended s) (blocks_in s) _ w c).1 refl) ((table-refused.refused (table_in (mended s)) k p).0 x))
+  left_calls w fits k p =
+      from_two (unless (is_complete s (codes_of s)) Mismatch 0) own_fault k p
+      (from_rule (CallsFor s entries room) (is_complete s (codes_of s)) Mismatch 0 k p (λ e. incomplete (blocks_in s) w fits (λ n. fails _ (is_complete_lem s n) e)))
+      (λ f x. let c = complete_is s (unless_fine _ Mismatch 0 f) in table (blocks_in s) _ (mended s) w fits c ((ordered s (mended s) (blocks_in s) _ w c).1 refl) ((table-refused.refused (table_in (mended s)) k p).0 x))
 
   refused_calls : (k p : ℕ) → Refuses (salvage_fault s entries room) k p → CallsFor s entries room k p
   unfolding salvage_fault
   refused_calls k p =
-      from_two (room_fault (length s) entries room) (left_fault s (codes_of s)) k p (room-calls k p)
-      (λ f. let r = room_fits s entries room f in left-calls r.0 r.1 k p)
+      from_two (room_fault (length s) entries room) (left_fault s (codes_of s)) k p (room_calls k p)
+      (λ f. let r = room_fits s entries room f in left_calls r.0 r.1 k p)
 
   -- ---- what is called for is given
 
   -- of the room; and of the blocks left, where there is room
-  room-given : (k p : ℕ) → Refuses (room_fault (length s) entries room) k p → Refuses (salvage_fault s entries room) k p
+  room_given : (k p : ℕ) → Refuses (room_fault (length s) entries room) k p → Refuses (salvage_fault s entries room) k p
   unfolding salvage_fault
-  room-given k p x = (two_decide (room_fault (length s) entries room) (left_fault s (codes_of s)) k p).1 (inl x)
+  room_given k p x = (two_decide (room_fault (length s) entries room) (left_fault s (codes_of s)) k p).1 (inl x)
 
-  left-given : WholeCard s (blocks_in s) → Room s (blocks_in s) entries room → (k p : ℕ) → Refuses (left_fault s (codes_of s)) k p
+  left_given : WholeCard s (blocks_in s) → Room s (blocks_in s) entries room → (k p : ℕ) → Refuses (left_fault s (codes_of s)) k p
       → Refuses (salvage_fault s entries room) k p
   unfolding salvage_fault
-  left-given w fits k p x = rw (room-fine s entries room w fits) x
+  left_given w fits k p x = rw (room_fine s entries room w fits) x
 
-  bad-given : ((k : ℕ) → WholeCard s k → ⊥) → Refuses (room_fault (length s) entries room) 15 0
+  bad_given : ((k : ℕ) → WholeCard s k → ⊥) → Refuses (room_fault (length s) entries room) 15 0
   unfolding room_fault
-  bad-given n =
+  bad_given n =
       (two_decide _ (unless (has_room (length s) entries room) TooShort 0) 15 0).1
-      (inl (is_rule (is_card (length s)) BadCard 0 (failing _ (card-is s) (n (blocks_in s)))))
+      (inl (is_rule (is_card (length s)) BadCard 0 (failing _ (card_is s) (n (blocks_in s)))))
 
-  short-given : WholeCard s (blocks_in s) → Short → Refuses (room_fault (length s) entries room) 11 0
+  short_given : WholeCard s (blocks_in s) → Short → Refuses (room_fault (length s) entries room) 11 0
   unfolding room_fault
-  short-given w x = rw (is-card s (blocks_in s) w) (is_rule (has_room (length s) entries room) TooShort 0 (is-short x))
+  short_given w x = rw (is_card_lem s (blocks_in s) w) (is_rule (has_room (length s) entries room) TooShort 0 (is_short x))
 
-  incomplete-given : ((n : ℕ) → Complete s (blocks_in s) n → ⊥) → Refuses (left_fault s (codes_of s)) 14 0
+  incomplete_given : ((n : ℕ) → Complete s (blocks_in s) n → ⊥) → Refuses (left_fault s (codes_of s)) 14 0
   unfolding left_fault mended
-  incomplete-given n =
-      (two_decide _ ownFault 14 0).1 (inl (is_rule (is_complete s (codes_of s)) Mismatch 0 (failing _ (λ e. complete-is s e) (n _))))
+  incomplete_given n =
+      (two_decide _ own_fault 14 0).1 (inl (is_rule (is_complete s (codes_of s)) Mismatch 0 (failing _ (λ e. complete_is s e) (n _))))
 
-  own-given : (n k p : ℕ) → Complete s (blocks_in s) n → Refuses ownFault k p → Refuses (left_fault s (codes_of s)) k p
+  own_given : (n k p : ℕ) → Complete s (blocks_in s) n → Refuses own_fault k p → Refuses (left_fault s (codes_of s)) k p
   unfolding left_fault mended
-  own-given n k p c x = rw (is-complete s n c) x
+  own_given n k p c x = rw (is_complete_lem s n c) x
 
   calls_refused : (k p : ℕ) → CallsFor s entries room k p → Refuses (salvage_fault s entries room) k p
-  calls_refused _ _ (bad_card n) = room-given 15 0 (bad-given n)
-  calls_refused _ _ (too_short k w x) = let e = sym (card_blocks w) in room-given 11 0 (short-given (rw e at w) (rw e at x))
-  calls_refused _ _ (incomplete k w fits n) = let e = sym (card_blocks w) in left-given (rw e at w) (rw e at fits) 14 0 (incomplete-given (rw e at n))
+  calls_refused _ _ (bad_card n) = room_given 15 0 (bad_given n)
+  calls_refused _ _ (too_short k w x) = let e = sym (card_blocks w) in room_given 11 0 (short_given (rw e at w) (rw e at x))
+  calls_refused _ _ (incomplete k w fits n) = let e = sym (card_blocks w) in left_given (rw e at w) (rw e at fits) 14 0 (incomplete_given (rw e at n))
   calls_refused q p (table k n a w fits c o x) =
       let e = sym (card_blocks w) in
-      left-given (rw e at w) (rw e at fits) q p (own-given n q p (rw e at c) ((table-refused.refused (table_in (mended s)) q p).1 (rw ((ordered s a k n w c).0 o) at x)))
+      left_given (rw e at w) (rw e at fits) q p (own_given n q p (rw e at c) ((table-refused.refused (table_in (mended s)) q p).1 (rw ((ordered s a k n w c).0 o) at x)))
 
   -- ---- nothing is refused
 
   abbrev Calm : Type 0
   Calm = (k : ℕ) × (n : ℕ) × (a : List ℕ) × WholeCard s k × Room s k entries room × Complete s k n × Ordered s k n a × Accepted (table_in a)
 
-  fine-calm : salvage_fault s entries room ≡ Fine → Calm
-  fine-calm e =
-      let x = fine-sound s entries room e in
-      let c = complete-is s x.complete in
+  fine_calm : salvage_fault s entries room ≡ Fine → Calm
+  fine_calm e =
+      let x = fine_sound s entries room e in
+      let c = complete_is s x.complete in
       (blocks_in s, _, mended s, x.whole, x.fits, c, (ordered s (mended s) (blocks_in s) _ x.whole c).1 refl, fine_accepted (table_in (mended s)) x.table)
 
-  calm-fine : Calm → salvage_fault s entries room ≡ Fine
-  calm-fine (k, n, a, w, fits, c, o, g) =
+  calm_fine : Calm → salvage_fault s entries room ≡ Fine
+  calm_fine (k, n, a, w, fits, c, o, g) =
       let e = sym (card_blocks w) in
-      sound-fine s entries room
-      (record { whole = rw e at w; fits = rw e at fits; complete = is-complete s n (rw e at c); table = accepted_fine (table_in (mended s)) (rw ((ordered s a k n w c).0 o) at g) })
+      sound_fine s entries room
+      (record { whole = rw e at w; fits = rw e at fits; complete = is_complete_lem s n (rw e at c); table = accepted_fine (table_in (mended s)) (rw ((ordered s a k n w c).0 o) at g) })
 
   -- ---- too many
 
-  many-given : (n : ℕ) → Complete s (blocks_in s) n → max_tasks < n → Refuses ownFault 8 0
+  many_given : (n : ℕ) → Complete s (blocks_in s) n → max_tasks < n → Refuses own_fault 8 0
   unfolding table_fault table_in
-  many-given n c h =
-      let b : blocks_in (mended s) ≡ n = omega (arith, mended-length s n c) in
+  many_given n c h =
+      let b : blocks_in (mended s) ≡ n = omega (arith, mended_length s n c) in
       rw (b, le-leb 1 n (omega arith), lt-leb n max_tasks h) (_, refl, record { number = refl; place = refl })
 
   too_many : (k n : ℕ) → WholeCard s k → Room s k entries room → Complete s k n → max_tasks < n → Refuses (salvage_fault s entries room) 8 0
   too_many k n w fits c h =
       let e = sym (card_blocks w) in
-      left-given (rw e at w) (rw e at fits) 8 0 (own-given n 8 0 (rw e at c) (many-given n (rw e at c) h))
+      left_given (rw e at w) (rw e at fits) 8 0 (own_given n 8 0 (rw e at c) (many_given n (rw e at c) h))
 
 pub salvaged_as_called : SalvagedAsCalled
 salvaged_as_called =
     record {
-      fates = λ s i f. (λ e. rw e at (becomes s i), fate-is s i f);
+      fates = λ s i f. (λ e. rw e at (becomes s i), fate_is s i f);
       ordered = ordered;
       refused = λ s entries room k p. (refused_calls s entries room k p, calls_refused s entries room k p);
-      fine = λ s entries room. (fine-calm s entries room, calm-fine s entries room);
+      fine = λ s entries room. (fine_calm s entries room, calm_fine s entries room);
       too_many = too_many;
     }

@@ -15,7 +15,7 @@ use Rattle.block.specs.declared.Head.{Head}
 use Rattle.block.specs.Block.{head_in}
 use Rattle.card.specs.Archive.{block_at}
 use Rattle.basics.proofs.CountLaws.{count_some}
-use Rattle.salvaging.proofs.LeftLaws.{complete-left}
+use Rattle.salvaging.proofs.LeftLaws.{complete_left}
 use Rattle.salvaging.specs.Salvage.{left_at, left_in, first_left, head_left, joins, may_join, all_join, left_with, how_many, each_once, is_complete, place_of}
 use Rattle.basics.proofs.OnceLaws.{and_both, pick_is, is_pick, some_count, Once, first_once, count_once, once_count}
 
@@ -40,9 +40,9 @@ pub record Completes (s list : List ℕ) : Type 0 where
   pub once : (p : ℕ) → p < (head_left s list).n → (i : ℕ) × Once (length list) (left_with s list (p + 1)) i
 
 module _ (s list : List ℕ) where
-  pub completes-is : is_complete s list ≡ true → Completes s list
+  pub completes_is : is_complete s list ≡ true → Completes s list
   unfolding is_complete left_in first_left all_join each_once how_many
-  completes-is e =
+  completes_is e =
       let n : ℕ = (head_left s list).n in
       let p = and_true (ltb 0 (left_in list) && all_join s list (head_left s list)) (each_once s list n) e in
       let q = and_true (ltb 0 (left_in list)) (all_join s list (head_left s list)) p.0 in
@@ -52,9 +52,9 @@ module _ (s list : List ℕ) where
         once = λ k h. once_count (length list) (left_with s list (k + 1)) (eqb-true _ _ (all_at n k (λ j. eqb (how_many s list (j + 1)) 1) p.1 h));
       }
 
-  pub is-completes : Completes s list → is_complete s list ≡ true
+  pub is_completes : Completes s list → is_complete s list ≡ true
   unfolding is_complete left_in first_left all_join each_once how_many
-  is-completes c =
+  is_completes c =
       let n : ℕ = (head_left s list).n in
       let x = lt-ltb _ _ (some_count (length list) (first_left list) (left_at list) c.below ((first_is (length list) (left_at list)).found c.below)) in
       let y = all_hold (length list) (may_join s list (head_left s list)) (λ i h. is_pick (left_at list i) _ (c.join i h)) in
@@ -64,11 +64,11 @@ module _ (s list : List ℕ) where
 
   -- as many are left as the first of them says
   pub count_left : Completes s list → left_in list ≡ (head_left s list).n
-  count_left c = complete-left s list (is-completes c)
+  count_left c = complete_left s list (is_completes c)
 
   -- and the one with each number is where it is looked for
-  pub place-once : Completes s list → (p : ℕ) → p < (head_left s list).n → Once (length list) (left_with s list (p + 1)) (place_of s list (p + 1))
+  pub place_once : Completes s list → (p : ℕ) → p < (head_left s list).n → Once (length list) (left_with s list (p + 1)) (place_of s list (p + 1))
   unfolding place_of
-  place-once c p h =
+  place_once c p h =
       let o = c.once p h in
       rw (first_once (length list) o.0 (left_with s list (p + 1)) o.1) o.1

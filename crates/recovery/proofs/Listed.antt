@@ -25,24 +25,24 @@ module _ (s list : List ℕ) (room : ℕ) where
   early = room_fault (length s) (length list) room
 
   -- 15 and 11, with place 0
-  early-is : (k p : ℕ) → Refuses early k p → ((k ≡ 15) ⊎ (k ≡ 11)) × (p ≡ 0)
+  early_is : (k p : ℕ) → Refuses early k p → ((k ≡ 15) ⊎ (k ≡ 11)) × (p ≡ 0)
   unfolding room_fault
-  early-is k p =
+  early_is k p =
       from_two (unless (is_card (length s)) BadCard 0) (unless (has_room (length s) (length list) room) TooShort 0) k p
       (λ x. let r = rule_is (is_card (length s)) BadCard 0 k p x in (inl (sym r.1), sym r.2))
       (λ _ x. let r = rule_is (has_room (length s) (length list) room) TooShort 0 k p x in (inr (sym r.1), sym r.2))
 
-  early-number : (k p : ℕ) → Refuses early k p → Refuses early 15 0 ⊎ Refuses early 11 0
-  early-number k p x = go (early-is k p x)
+  early_number : (k p : ℕ) → Refuses early k p → Refuses early 15 0 ⊎ Refuses early 11 0
+  early_number k p x = go (early_is k p x)
     where
       go : ((k ≡ 15) ⊎ (k ≡ 11)) × (p ≡ 0) → Refuses early 15 0 ⊎ Refuses early 11 0
       go (inl e, f) = inl (rw (← e, ← f) x)
       go (inr e, f) = inr (rw (← e, ← f) x)
 
   -- 14 and the table's own
-  late-number : (k p : ℕ) → Refuses (left_fault s (codes_of s)) k p → (k ≡ 14) ⊎ (k ≤ 9)
+  late_number : (k p : ℕ) → Refuses (left_fault s (codes_of s)) k p → (k ≡ 14) ⊎ (k ≤ 9)
   unfolding left_fault
-  late-number k p =
+  late_number k p =
       from_two (unless (is_complete s (codes_of s)) Mismatch 0) (table_fault (table_in (in_order s (codes_of s) (left_in (codes_of s))))) k p
       (λ x. inl (sym (rule_is (is_complete s (codes_of s)) Mismatch 0 k p x).1))
       (λ _ x. inr (number_most (card_none (in_order s (codes_of s) (left_in (codes_of s)))) ((table-refused.refused (table_in (in_order s (codes_of s) (left_in (codes_of s)))) k p).0 x)))
@@ -52,17 +52,17 @@ module _ (s list : List ℕ) (room : ℕ) where
   unfolding listed
   kept_by k p x = rw x.1
 
-  written-by : early ≡ Fine → listed s list room ≡ codes_of s ++ drop (length (codes_of s)) list
+  written_by : early ≡ Fine → listed s list room ≡ codes_of s ++ drop (length (codes_of s)) list
   unfolding listed
-  written-by e = rw e
+  written_by e = rw e
 
-  kept-after : (k p : ℕ) → ((k ≡ 14) ⊎ (k ≤ 9) → ⊥) → Refuses (salvage_fault s (length list) room) k p → listed s list room ≡ list
+  kept_after : (k p : ℕ) → ((k ≡ 14) ⊎ (k ≤ 9) → ⊥) → Refuses (salvage_fault s (length list) room) k p → listed s list room ≡ list
   unfolding salvage_fault
-  kept-after k p n = from_two early (left_fault s (codes_of s)) k p (kept_by k p) (λ _ x. absurd (n (late-number k p x)))
+  kept_after k p n = from_two early (left_fault s (codes_of s)) k p (kept_by k p) (λ _ x. absurd (n (late_number k p x)))
 
 pub list_kept : (s list : List ℕ) (room place : ℕ) → Refuses (salvage_fault s (length list) room) 15 place ⊎ Refuses (salvage_fault s (length list) room) 11 place → listed s list room ≡ list
 list_kept s list room place =
-    ⊎_elim (kept-after s list room 15 place (⊎_elim (λ e. omega arith) (λ h. omega arith))) (kept-after s list room 11 place (⊎_elim (λ e. omega arith) (λ h. omega arith)))
+    ⊎_elim (kept_after s list room 15 place (⊎_elim (λ e. omega arith) (λ h. omega arith))) (kept_after s list room 11 place (⊎_elim (λ e. omega arith) (λ h. omega arith)))
 
 pub list_written : (s list : List ℕ) (room : ℕ) → (Refuses (salvage_fault s (length list) room) 15 0 → ⊥) → (Refuses (salvage_fault s (length list) room) 11 0 → ⊥)
     → listed s list room ≡ codes_of s ++ drop (length (codes_of s)) list
@@ -70,7 +70,7 @@ unfolding salvage_fault
 list_written s list room m n = go (early s list room) refl
   where
     go : (c : Checked) → early s list room ≡ c → listed s list room ≡ codes_of s ++ drop (length (codes_of s)) list
-    go Fine e = written-by s list room e
+    go Fine e = written_by s list room e
     go (Refused r) e =
         let x : Refuses (early s list room) (number_of r.fault) r.place = (r, e, record { number = refl; place = refl }) in
-        absurd (⊎_elim (λ y. m (by_first (early s list room) _ 15 0 y)) (λ y. n (by_first (early s list room) _ 11 0 y)) (early-number s list room (number_of r.fault) r.place x))
+        absurd (⊎_elim (λ y. m (by_first (early s list room) _ 15 0 y)) (λ y. n (by_first (early s list room) _ 11 0 y)) (early_number s list room (number_of r.fault) r.place x))

@@ -19,41 +19,41 @@ use Rattle.salvaging.specs.Fates.{codes_of}
 use Rattle.salvaging.specs.Salvage.{head_left, mended, salvage_fault, salvage_answer, salvaged}
 use Rattle.recovery.specs.Refusals.{Complete}
 use Rattle.recovery.specs.Recovered.{written_of, Readable, NothingInvented}
-use Rattle.recovery.proofs.CardLaws.{Sound, fine-sound}
-use Rattle.recovery.proofs.Complete.{place_in, complete-is, placed, mended-length, mended-block}
+use Rattle.recovery.proofs.CardLaws.{Sound, fine_sound}
+use Rattle.recovery.proofs.Complete.{place_in, complete_is, placed, mended_length, mended_block}
 
 -- ---- what is written is an archive
 
 module _ (s : List ℕ) (n : ℕ) (c : Complete s (blocks_in s) n) where
-  blocks-are : blocks_in (mended s) ≡ n
-  blocks-are = omega (arith, mended-length s n c)
+  blocks_are : blocks_in (mended s) ≡ n
+  blocks_are = omega (arith, mended_length s n c)
 
   -- its bytes are those of the block with its number
-  byte-is : (p b : ℕ) → p < n → byte_at (block_at (mended s) p) b ≡ byte_at (block_at s (place_in s p)) b
-  byte-is p b h = ap (λ (x : List ℕ). byte_at x b) (mended-block s n c p h)
+  byte_is : (p b : ℕ) → p < n → byte_at (block_at (mended s) p) b ≡ byte_at (block_at s (place_in s p)) b
+  byte_is p b h = ap (λ (x : List ℕ). byte_at x b) (mended_block s n c p h)
 
   in_place : (p : ℕ) → p < n → InPlace (mended s) n p
   in_place p h =
       let x = placed s n c p h in
       let y = placed s n c 0 (omega arith) in
-      let t = byte-is p 4 h ∙ c.tasks (place_in s p) x.0 x.1 in
+      let t = byte_is p 4 h ∙ c.tasks (place_in s p) x.0 x.1 in
       record {
-        cpus = byte-is p 3 h ∙ c.cpus (place_in s p) (place_in s 0) x.0 y.0 x.1 y.1 ∙ sym (byte-is 0 3 (omega arith));
-        n_first = t ∙ sym (byte-is 0 4 (omega arith) ∙ c.tasks (place_in s 0) y.0 y.1);
+        cpus = byte_is p 3 h ∙ c.cpus (place_in s p) (place_in s 0) x.0 y.0 x.1 y.1 ∙ sym (byte_is 0 3 (omega arith));
+        n_first = t ∙ sym (byte_is 0 4 (omega arith) ∙ c.tasks (place_in s 0) y.0 y.1);
         n_blocks = t;
-        number = byte-is p 5 h ∙ x.2;
+        number = byte_is p 5 h ∙ x.2;
       }
 
-  mended-good : (p : ℕ) → p < n → GoodBlock (block_at (mended s) p)
-  mended-good p h = rw (mended-block s n c p h) (placed s n c p h).1.0
+  mended_good : (p : ℕ) → p < n → GoodBlock (block_at (mended s) p)
+  mended_good p h = rw (mended_block s n c p h) (placed s n c p h).1.0
 
-  mended-kept : table_fault (table_in (mended s)) ≡ Fine → Kept (mended s)
+  mended_kept : table_fault (table_in (mended s)) ≡ Fine → Kept (mended s)
   unfolding table_in
-  mended-kept e =
+  mended_kept e =
       let g = fine_accepted (table_in (mended s)) e in
       record {
-        whole = record { least = g.tasks_least; most = g.tasks_most; long = omega (arith, mended-length s n c) };
-        good = rw blocks-are (λ p h. (mended-good p h, in_place p h));
+        whole = record { least = g.tasks_least; most = g.tasks_most; long = omega (arith, mended_length s n c) };
+        good = rw blocks_are (λ p h. (mended_good p h, in_place p h));
         table = e;
       }
 
@@ -69,16 +69,16 @@ module _ (s out : List ℕ) (entries l : ℕ) (e : salvage_answer s entries (len
   written_is = rw wrote.0 (take_at (mended s) _ l wrote.1)
 
   sound : Sound s entries (length out)
-  sound = fine-sound s entries (length out) wrote.0
+  sound = fine_sound s entries (length out) wrote.0
 
 pub readable : Readable
 unfolding read_archive
 readable s out entries l e =
     let x = sound s out entries l e in
-    rw (written_is s out entries l e, kept_fine (mended s) (mended-kept s _ (complete-is s x.complete) x.table))
+    rw (written_is s out entries l e, kept_fine (mended s) (mended_kept s _ (complete_is s x.complete) x.table))
 
 pub nothing_invented : NothingInvented
 nothing_invented s out entries l e =
     let n : ℕ = (head_left s (codes_of s)).n in
-    let c = complete-is s (sound s out entries l e).complete in
-    rw (written_is s out entries l e) (λ p h. let k : p < n = omega (arith, blocks-are s n c) in (place_in s p, (placed s n c p k).0, mended-block s n c p k))
+    let c = complete_is s (sound s out entries l e).complete in
+    rw (written_is s out entries l e) (λ p h. let k : p < n = omega (arith, blocks_are s n c) in (place_in s p, (placed s n c p k).0, mended_block s n c p k))

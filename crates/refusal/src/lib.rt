@@ -1,4 +1,6 @@
 // The line that tells a refusal, as the programs for people have it.
+#![tactic(auto)]
+
 ghost use Rattle.std.specs.Prelude.{◌≡◌, ◌++◌, ◌≤◌, length, drop};
 ghost use Rattle.basics.specs.Text.{put_into};
 ghost use Rattle.put.specs.Text.{put_answer};
@@ -8,7 +10,7 @@ use put::Put;
 use table::Refusal;
 
 // What was refused: of a listing the place is a line.
-#[derive(Drop)]
+#[derive(Clone, Copy)]
 pub enum Source {
     Listing,
     Card,

@@ -24,15 +24,15 @@ use Rattle.block.specs.Block.{good_block, head_in}
 use Rattle.card.specs.Archive.{block_at, blocks_in, is_length, agrees, block_fault, block_fault_at, blocks_fault, table_in, archive_fault, read_archive}
 use Rattle.card.proofs.ReadLaws.{answer_is, card_none}
 use Rattle.release.specs.Refusals.{Whole, GoodBlock, InPlace, FirstGood, CallsFor, bad_length, bad_block, mismatch, table, RefusedAsCalled}
-use Rattle.release.proofs.GoodLaws.{good-is, is_good, agrees-is, is-agreed}
-use Rattle.release.proofs.Parts.{whole_blocks, whole_is, is_whole, block-good, block-fine, fine_kept, kept_fine}
+use Rattle.release.proofs.GoodLaws.{good_is, is_good, agrees_is, is_agreed}
+use Rattle.release.proofs.Parts.{whole_blocks, whole_is, is_whole, block_good, block_fine, fine_kept, kept_fine}
 
 -- ---- a block
 
 module _ (a : List ℕ) (w : Whole a (blocks_in a)) (i : ℕ) (h : i < blocks_in a) (before : FirstGood a (blocks_in a) i) where
-  block-calls : (k p : ℕ) → Refuses (block_fault_at a i) k p → CallsFor a k p
+  block_calls : (k p : ℕ) → Refuses (block_fault_at a i) k p → CallsFor a k p
   unfolding block_fault
-  block-calls k p x = go ((two_decide (unless (good_block (block_at a i)) BadBlock (i + 1)) _ k p).0 x)
+  block_calls k p x = go ((two_decide (unless (good_block (block_at a i)) BadBlock (i + 1)) _ k p).0 x)
     where
       test : Bool
       test = agrees (head_in (block_at a 0)) (blocks_in a) (i + 1) (head_in (block_at a i))
@@ -44,7 +44,7 @@ module _ (a : List ℕ) (w : Whole a (blocks_in a)) (i : ℕ) (h : i < blocks_in
           rw (← r.1, ← r.2) (bad_block (blocks_in a) i w h before (fails _ (is_good (block_at a i)) r.0))
       go (inr y) =
           let r = rule_is test Mismatch (i + 1) k p y.1 in
-          rw (← r.1, ← r.2) (mismatch (blocks_in a) i w h before (good-is (block_at a i) (unless_fine _ BadBlock (i + 1) y.0)) (fails _ (is-agreed a (blocks_in a) i) r.0))
+          rw (← r.1, ← r.2) (mismatch (blocks_in a) i w h before (good_is (block_at a i) (unless_fine _ BadBlock (i + 1) y.0)) (fails _ (is_agreed a (blocks_in a) i) r.0))
 
 pub refused_calls : (a : List ℕ) (k p : ℕ) → Refuses (archive_fault a) k p → CallsFor a k p
 unfolding archive_fault blocks_fault
@@ -56,8 +56,8 @@ refused_calls a k p x = go ((two_decide (unless (is_length (length a)) BadLength
     later : Whole a (blocks_in a) → Refuses blocks k p ⊎ ((blocks ≡ Fine) × Refuses (table_fault (table_in a)) k p) → CallsFor a k p
     later w (inl y) =
         let f = (many_decide (blocks_in a) (block_fault_at a) k p).0 y in
-        block-calls a w f.0 f.1 (λ j l. block-good a j (f.3 j l)) k p f.2
-    later w (inr y) = table (blocks_in a) w (λ j l. block-good a j (each_fine (blocks_in a) (block_fault_at a) y.0 j l)) ((table-refused.refused (table_in a) k p).0 y.1)
+        block_calls a w f.0 f.1 (λ j l. block_good a j (f.3 j l)) k p f.2
+    later w (inr y) = table (blocks_in a) w (λ j l. block_good a j (each_fine (blocks_in a) (block_fault_at a) y.0 j l)) ((table-refused.refused (table_in a) k p).0 y.1)
 
     go : Refuses (unless (is_length (length a)) BadLength 0) k p ⊎ ((unless (is_length (length a)) BadLength 0 ≡ Fine) × Refuses (blocks then table_fault (table_in a)) k p) → CallsFor a k p
     go (inl y) =
@@ -69,25 +69,25 @@ refused_calls a k p x = go ((two_decide (unless (is_length (length a)) BadLength
 
 module _ (a : List ℕ) (w : Whole a (blocks_in a)) where
   -- after the length: of a block, where those before it are good and in place
-  block-given : (i k p : ℕ) → i < blocks_in a → FirstGood a (blocks_in a) i → Refuses (block_fault_at a i) k p → Refuses (archive_fault a) k p
+  block_given : (i k p : ℕ) → i < blocks_in a → FirstGood a (blocks_in a) i → Refuses (block_fault_at a i) k p → Refuses (archive_fault a) k p
   unfolding archive_fault blocks_fault
-  block-given i k p h before x =
+  block_given i k p h before x =
       rw (is_whole a (blocks_in a) w)
       ((two_decide (first_fault (blocks_in a) (block_fault_at a)) (table_fault (table_in a)) k p).1
-      (inl ((many_decide (blocks_in a) (block_fault_at a) k p).1 (i, h, x, λ j l. block-fine a j (before j l).0 (before j l).1))))
+      (inl ((many_decide (blocks_in a) (block_fault_at a) k p).1 (i, h, x, λ j l. block_fine a j (before j l).0 (before j l).1))))
 
   -- and of the table, where all are
-  table-given : (k p : ℕ) → FirstGood a (blocks_in a) (blocks_in a) → Refuses (table_fault (table_in a)) k p → Refuses (archive_fault a) k p
+  table_given : (k p : ℕ) → FirstGood a (blocks_in a) (blocks_in a) → Refuses (table_fault (table_in a)) k p → Refuses (archive_fault a) k p
   unfolding archive_fault blocks_fault
-  table-given k p all x = rw (is_whole a (blocks_in a) w, first_fine (blocks_in a) (block_fault_at a) (λ j l. block-fine a j (all j l).0 (all j l).1)) x
+  table_given k p all x = rw (is_whole a (blocks_in a) w, first_fine (blocks_in a) (block_fault_at a) (λ j l. block_fine a j (all j l).0 (all j l).1)) x
 
-  bad-given : (i : ℕ) → (GoodBlock (block_at a i) → ⊥) → Refuses (block_fault_at a i) 13 (i + 1)
+  bad_given : (i : ℕ) → (GoodBlock (block_at a i) → ⊥) → Refuses (block_fault_at a i) 13 (i + 1)
   unfolding block_fault
-  bad-given i n = (two_decide _ _ 13 (i + 1)).1 (inl (is_rule (good_block (block_at a i)) BadBlock (i + 1) (failing _ (good-is (block_at a i)) n)))
+  bad_given i n = (two_decide _ _ 13 (i + 1)).1 (inl (is_rule (good_block (block_at a i)) BadBlock (i + 1) (failing _ (good_is (block_at a i)) n)))
 
-  mismatch-given : (i : ℕ) → GoodBlock (block_at a i) → (InPlace a (blocks_in a) i → ⊥) → Refuses (block_fault_at a i) 14 (i + 1)
+  mismatch_given : (i : ℕ) → GoodBlock (block_at a i) → (InPlace a (blocks_in a) i → ⊥) → Refuses (block_fault_at a i) 14 (i + 1)
   unfolding block_fault
-  mismatch-given i g n = rw (is_good (block_at a i) g) (is_rule _ Mismatch (i + 1) (failing _ (agrees-is a (blocks_in a) i) n))
+  mismatch_given i g n = rw (is_good (block_at a i) g) (is_rule _ Mismatch (i + 1) (failing _ (agrees_is a (blocks_in a) i) n))
 
 pub calls_refused : (a : List ℕ) (k p : ℕ) → CallsFor a k p → Refuses (archive_fault a) k p
 unfolding archive_fault
@@ -95,13 +95,13 @@ calls_refused a _ _ (bad_length n) =
     (two_decide _ _ 12 0).1 (inl (is_rule (is_length (length a)) BadLength 0 (failing _ (whole_is a) (n (blocks_in a)))))
 calls_refused a _ _ (bad_block n i w h before x) =
     let e = sym (whole_blocks w) in
-    block-given a (rw e at w) i 13 (i + 1) (rw e at h) (rw e at before) (bad-given a (rw e at w) i x)
+    block_given a (rw e at w) i 13 (i + 1) (rw e at h) (rw e at before) (bad_given a (rw e at w) i x)
 calls_refused a _ _ (mismatch n i w h before g x) =
     let e = sym (whole_blocks w) in
-    block-given a (rw e at w) i 14 (i + 1) (rw e at h) (rw e at before) (mismatch-given a (rw e at w) i g (rw e at x))
+    block_given a (rw e at w) i 14 (i + 1) (rw e at h) (rw e at before) (mismatch_given a (rw e at w) i g (rw e at x))
 calls_refused a k p (table n w all x) =
     let e = sym (whole_blocks w) in
-    table-given a (rw e at w) k p (rw e at all) ((table-refused.refused (table_in a) k p).1 x)
+    table_given a (rw e at w) k p (rw e at all) ((table-refused.refused (table_in a) k p).1 x)
 
 -- ---- which numbers there are: 4, 5, 7, and 12 to 14
 

@@ -58,8 +58,8 @@ rests c d x y h l e = go (dec_lt c d) (dec_lt d c)
     go (no p) (no q) = let f : c ≡ d = omega arith in omega arith
 
 module _ (s : List ℕ) (j v : ℕ) (bytes : Bytes s) (h : j < length s) (l : v < 256) where
-  pub set-bytes : Bytes (set s j v)
-  set-bytes i = go (ℕ_discrete i j)
+  pub set_bytes : Bytes (set s j v)
+  set_bytes i = go (ℕ_discrete i j)
     where
       go : Dec (i ≡ j) → byte_at (set s j v) i < 256
       go (yes e) = rw (e, get_or-set_same s j v 0 h) l
@@ -86,9 +86,9 @@ module _ (s : List ℕ) (j v : ℕ) (bytes : Bytes s) (h : j < length s) (l : v 
           let e : 2 * (j / 2) + 1 ≡ j = omega arith in
           inr (rw (e, new, get_or-set_other s j (2 * (j / 2)) v 0 d) (omega arith))
 
-  pub check-changes : (v ≡ byte_at s j → ⊥) → check_of (set s j v) ≡ check_of s → ⊥
+  pub check_changes : (v ≡ byte_at s j → ⊥) → check_of (set s j v) ≡ check_of s → ⊥
   unfolding check_of
-  check-changes ne e = ne (go word_moved)
+  check_changes ne e = ne (go word_moved)
     where
       n : ℕ
       n = pairs_of s
@@ -96,7 +96,7 @@ module _ (s : List ℕ) (j v : ℕ) (bytes : Bytes s) (h : j < length s) (l : v 
       same_sum : ones_sum n (set s j v) ≡ ones_sum n s
       same_sum =
           let f : 65_535 - ones_sum n (set s j v) ≡ 65_535 - ones_sum n s = rw (length-set s j v) at e in
-          omega (arith, f, sum_most n s bytes, sum_most n (set s j v) set-bytes)
+          omega (arith, f, sum_most n s bytes, sum_most n (set s j v) set_bytes)
 
       moved : sum_to n (word_at (set s j v)) + word_at s (j / 2) ≡ sum_to n (word_at s) + word_at (set s j v) (j / 2)
       moved = sum_one n (j / 2) (word_at s) (word_at (set s j v)) (omega arith) word_same

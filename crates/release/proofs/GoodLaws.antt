@@ -37,9 +37,9 @@ zeros_hold : (s : List ℕ) (at k : ℕ) → ((i : ℕ) → at ≤ i → i < at 
 zeros_hold s at k each = all_hold k _ (λ j h. eq-eqb _ _ (each (at + j) (omega arith) (omega arith)))
 
 module _ (s : List ℕ) where
-  pub good-is : good_block s ≡ true → GoodBlock s
+  pub good_is : good_block s ≡ true → GoodBlock s
   unfolding good_block marked_block
-  good-is e =
+  good_is e =
       let g = and_three (eqb (length s) 512) (eqb (number_at s 510 2) (check_of (take 510 s))) (marked_block s) e in
       let m = and_five (eqb (byte_at s 0) 0x54) (eqb (byte_at s 1) 0x42) (eqb (byte_at s 2) 1) (zeros_at s 6 2) (zeros_at s 180 330) g.2 in
       record {
@@ -68,12 +68,12 @@ module _ (s : List ℕ) where
       )
 
 module _ (a : List ℕ) (n i : ℕ) where
-  pub agrees-is : agrees (head_in (block_at a 0)) n (i + 1) (head_in (block_at a i)) ≡ true → InPlace a n i
+  pub agrees_is : agrees (head_in (block_at a 0)) n (i + 1) (head_in (block_at a i)) ≡ true → InPlace a n i
   unfolding agrees head_in
-  agrees-is e =
+  agrees_is e =
       let p = and_four (eqb (byte_at (block_at a i) 3) (byte_at (block_at a 0) 3)) (eqb (byte_at (block_at a i) 4) (byte_at (block_at a 0) 4)) (eqb (byte_at (block_at a i) 4) n) (eqb (byte_at (block_at a i) 5) (i + 1)) e in
       record { cpus = eqb-true _ _ p.0; n_first = eqb-true _ _ p.1; n_blocks = eqb-true _ _ p.2; number = eqb-true _ _ p.3 }
 
-  pub is-agreed : InPlace a n i → agrees (head_in (block_at a 0)) n (i + 1) (head_in (block_at a i)) ≡ true
+  pub is_agreed : InPlace a n i → agrees (head_in (block_at a 0)) n (i + 1) (head_in (block_at a i)) ≡ true
   unfolding agrees head_in
-  is-agreed p = rw (eq-eqb _ _ p.cpus, eq-eqb _ _ p.n_first, eq-eqb _ _ p.n_blocks, eq-eqb _ _ p.number)
+  is_agreed p = rw (eq-eqb _ _ p.cpus, eq-eqb _ _ p.n_first, eq-eqb _ _ p.n_blocks, eq-eqb _ _ p.number)

@@ -21,9 +21,9 @@ use Rattle.card.proofs.ReadLaws.{answer_is, accepted_is}
 use Rattle.release.specs.Undo.{Bytes, Noticed}
 use Rattle.release.specs.Refusals.{Whole, GoodBlock}
 use Rattle.release.proofs.NumberBack.{number_eq}
-use Rattle.release.proofs.GoodLaws.{good-is}
-use Rattle.release.proofs.Parts.{block_bytes, is_whole, block-fine, Kept, fine_kept}
-use Rattle.release.proofs.Changed.{check-changes}
+use Rattle.release.proofs.GoodLaws.{good_is}
+use Rattle.release.proofs.Parts.{block_bytes, is_whole, block_fine, Kept, fine_kept}
+use Rattle.release.proofs.Changed.{check_changes}
 
 -- ---- a good block with one byte changed is not good
 
@@ -35,7 +35,7 @@ module _ (b : List ℕ) (r v : ℕ) (bytes : Bytes b) (g : GoodBlock b) (h : r <
       let n : number_at (set b r v) 510 2 ≡ number_at b 510 2 = number_eq (set b r v) b 510 510 2 (λ j d. get_or-set_other b r (510 + j) v 0 (λ e. omega arith)) in
       let c : check_of (set body r v) ≡ check_of body = ap check_of (sym (take-set-lt 510 b r v m)) ∙ sym q.check ∙ n ∙ g.check in
       let w : length body ≡ 510 = length-take-le 510 b (omega (arith, g.long)) in
-      check-changes body r v body_bytes (omega arith) l (λ e. ne (e ∙ get_or-take 510 b r 0 m)) c
+      check_changes body r v body_bytes (omega arith) l (λ e. ne (e ∙ get_or-take 510 b r 0 m)) c
     where
       body_bytes : Bytes (take 510 b)
       body_bytes i = go (dec_lt i 510)
@@ -45,8 +45,8 @@ module _ (b : List ℕ) (r v : ℕ) (bytes : Bytes b) (g : GoodBlock b) (h : r <
           go (no d) = rw (get_or-eq_default (take 510 b) 0 {n = i} (omega (arith, length-take-le 510 b (omega (arith, g.long))))) (omega arith)
 
   -- a byte of the check
-  in-check : 510 ≤ r → GoodBlock (set b r v) → ⊥
-  in-check m q =
+  in_check : 510 ≤ r → GoodBlock (set b r v) → ⊥
+  in_check m q =
       let n : number_at (set b r v) 510 2 ≡ number_at b 510 2 = q.check ∙ ap check_of (take-set-le 510 b r v m) ∙ sym g.check in
       let e : byte_at (set b r v) 510 * 256 + byte_at (set b r v) 511 ≡ byte_at b 510 * 256 + byte_at b 511 = number_two (set b r v) 510 ∙ n ∙ sym (number_two b 510) in
       ne (go (ℕ_discrete r 510) e)
@@ -71,8 +71,8 @@ module _ (b : List ℕ) (r v : ℕ) (bytes : Bytes b) (g : GoodBlock b) (h : r <
   spoiled = go (good_block (set b r v)) refl (dec_lt r 510)
     where
       go : (x : Bool) → good_block (set b r v) ≡ x → Dec (r < 510) → x ≡ false
-      go true e (yes d) = absurd (in_body d (good-is (set b r v) e))
-      go true e (no d) = absurd (in-check (omega arith) (good-is (set b r v) e))
+      go true e (yes d) = absurd (in_body d (good_is (set b r v) e))
+      go true e (no d) = absurd (in_check (omega arith) (good_is (set b r v) e))
       go false e d = refl
 
 -- ---- an archive with one byte changed
@@ -86,38 +86,38 @@ module _ (a : List ℕ) (i q r v : ℕ) where
 
 module _ (a : List ℕ) (q r v : ℕ) where
   -- and it is the block with that byte changed
-  block-set : r < 512 → block_at (set a (512 * q + r) v) q ≡ set (block_at a q) r v
-  block-set h = rw (drop-set-add (512 * q) a r v) (take-set-lt 512 (drop (512 * q) a) r v h)
+  block_set : r < 512 → block_at (set a (512 * q + r) v) q ≡ set (block_at a q) r v
+  block_set h = rw (drop-set-add (512 * q) a r v) (take-set-lt 512 (drop (512 * q) a) r v h)
 
   module _ (bytes : Bytes a) (k : Kept a) (h : r < 512) (l : v < 256) (ne : v ≡ byte_at a (512 * q + r) → ⊥) (m : 512 * q + r < length a) where
     there : q < blocks_in a
     there = omega arith
 
-    blocks-same : blocks_in (set a (512 * q + r) v) ≡ blocks_in a
-    blocks-same = rw (length-set a (512 * q + r) v)
+    blocks_same : blocks_in (set a (512 * q + r) v) ≡ blocks_in a
+    blocks_same = rw (length-set a (512 * q + r) v)
 
     first_q : (i : ℕ) → i < q → block_fault_at (set a (512 * q + r) v) i ≡ Fine
     first_q i d =
         let g = k.good i (omega (arith, there)) in
-        rw (before_same a i q r v d, before_same a 0 q r v (omega arith), blocks-same) (block-fine a i g.0 g.1)
+        rw (before_same a i q r v d, before_same a 0 q r v (omega arith), blocks_same) (block_fine a i g.0 g.1)
 
-    at-q : block_fault_at (set a (512 * q + r) v) q ≡ at BadBlock (q + 1)
+    at_q : block_fault_at (set a (512 * q + r) v) q ≡ at BadBlock (q + 1)
     unfolding block_fault
-    at-q =
+    at_q =
         let g = (k.good q there).0 in
         let e : byte_at (block_at a q) r ≡ byte_at a (512 * q + r) = get_or-take 512 (drop (512 * q) a) r 0 h ∙ get_or-drop (512 * q) a r 0 in
-        rw (block-set h, spoiled (block_at a q) r v (block_bytes a q bytes g.long) g h l (λ x. ne (x ∙ e)))
+        rw (block_set h, spoiled (block_at a q) r v (block_bytes a q bytes g.long) g h l (λ x. ne (x ∙ e)))
 
-    pub refused-at : archive_fault (set a (512 * q + r) v) ≡ at BadBlock (q + 1)
+    pub refused_at : archive_fault (set a (512 * q + r) v) ≡ at BadBlock (q + 1)
     unfolding archive_fault blocks_fault
-    refused-at =
+    refused_at =
         let w : Whole (set a (512 * q + r) v) (blocks_in a) = record { least = k.whole.least; most = k.whole.most; long = length-set a (512 * q + r) v ∙ k.whole.long } in
-        let f = first_at (blocks_in (set a (512 * q + r) v)) q (block_fault_at (set a (512 * q + r) v)) _ (rw blocks-same there) (first_fine q (block_fault_at (set a (512 * q + r) v)) first_q) at-q in
+        let f = first_at (blocks_in (set a (512 * q + r) v)) q (block_fault_at (set a (512 * q + r) v)) _ (rw blocks_same there) (first_fine q (block_fault_at (set a (512 * q + r) v)) first_q) at_q in
         rw (is_whole (set a (512 * q + r) v) (blocks_in a) w, f)
 
 pub noticed : Noticed
 noticed a t j v bytes e h l ne =
     let p = accepted_is a t e in
     let s : j ≡ 512 * (j / 512) + j % 512 = omega arith in
-    let f = refused-at a (j / 512) (j % 512) v bytes (fine_kept a p.0) (omega arith) l (rw (← s) ne) (rw (← s) h) in
+    let f = refused_at a (j / 512) (j % 512) v bytes (fine_kept a p.0) (omega arith) l (rw (← s) ne) (rw (← s) h) in
     (_, answer_is (set a j v) ∙ rw (← s) at f, record { number = refl; place = refl })

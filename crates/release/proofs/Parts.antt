@@ -11,7 +11,7 @@ use lib.ListN.{length, drop, length-drop, take-append-drop, drop_of_length-le, g
 use lib.Seq.{length-take-le, get_or-take, get_or-drop, drop-drop, ext_get_or}
 use Rattle.basics.specs.Over.{join_to}
 use Rattle.basics.proofs.ChoiceLaws.{within_in}
-use Rattle.basics.proofs.JoinLaws.{join-none, join_more, join-at, join-even}
+use Rattle.basics.proofs.JoinLaws.{join_none, join_more, join_at, join_even}
 use Rattle.table.specs.declared.Fault.TheVariants.{BadLength, BadBlock, Mismatch}
 use Rattle.table.specs.declared.Checked.TheVariants.{Fine}
 use Rattle.table.specs.Limits.{max_tasks}
@@ -25,25 +25,25 @@ use Rattle.card.specs.Archive.{block_at, blocks_in, is_length, block_fault, bloc
 use Rattle.card.proofs.ArchiveLaws.{length_whole}
 use Rattle.release.specs.Undo.{Bytes}
 use Rattle.release.specs.Refusals.{Whole, GoodBlock, InPlace, FirstGood}
-use Rattle.release.proofs.GoodLaws.{good-is, is_good, agrees-is, is-agreed}
+use Rattle.release.proofs.GoodLaws.{good_is, is_good, agrees_is, is_agreed}
 
 -- ---- the parts
 
 -- block i + 1 of blocks that were joined
 pub part_of_lem : (n i : ℕ) (f : ℕ → List ℕ) → ((k : ℕ) → k < n → length (f k) ≡ 512) → i < n → block_at (join_to n f) i ≡ f i
 part_of_lem n i f each h =
-    let l = join-even n 512 f each in
+    let l = join_even n 512 f each in
     let w : length (drop (512 * i) (join_to n f)) ≡ 512 * n - 512 * i = length-drop (512 * i) (join_to n f) ∙ rw l in
     let t : length (block_at (join_to n f) i) ≡ 512 = length-take-le 512 (drop (512 * i) (join_to n f)) (omega arith) in
     ext_get_or 0 (block_at (join_to n f) i) (f i) (t ∙ sym (each i h))
-    (λ j m. get_or-take 512 (drop (512 * i) (join_to n f)) j 0 (omega arith) ∙ get_or-drop (512 * i) (join_to n f) j 0 ∙ join-at n 512 i j f 0 each h (omega arith))
+    (λ j m. get_or-take 512 (drop (512 * i) (join_to n f)) j 0 (omega arith) ∙ get_or-drop (512 * i) (join_to n f) j 0 ∙ join_at n 512 i j f 0 each h (omega arith))
 
 -- the blocks of an archive, joined, are the archive
 pub parts_joined : (a : List ℕ) (n : ℕ) → length a ≡ 512 * n → join_to n (block_at a) ≡ a
 parts_joined a n e = sym (go n (omega arith) ∙ rw (drop_of_length-le a {i = 512 * n} (omega arith), append-nil))
   where
     go : (k : ℕ) → k ≤ n → a ≡ join_to k (block_at a) ++ drop (512 * k) a
-    go zero h = rw join-none
+    go zero h = rw join_none
     go (suc k) h =
         let s : suc k ≡ k + 1 = omega arith in
         let d : 512 * (k + 1) ≡ 512 * k + 512 = omega arith in
@@ -74,15 +74,15 @@ is_whole a n w =
     rw (eq-eqb (length a % 512) 0 (omega (arith, w.long)), q, within_in 1 max_tasks n w.least w.most)
 
 module _ (a : List ℕ) (i : ℕ) where
-  pub block-good : block_fault_at a i ≡ Fine → GoodBlock (block_at a i) × InPlace a (blocks_in a) i
+  pub block_good : block_fault_at a i ≡ Fine → GoodBlock (block_at a i) × InPlace a (blocks_in a) i
   unfolding block_fault
-  block-good e =
+  block_good e =
       let p = then_fine (unless (good_block (block_at a i)) BadBlock (i + 1)) _ e in
-      (good-is (block_at a i) (unless_fine _ BadBlock (i + 1) p.0), agrees-is a (blocks_in a) i (unless_fine _ Mismatch (i + 1) p.1))
+      (good_is (block_at a i) (unless_fine _ BadBlock (i + 1) p.0), agrees_is a (blocks_in a) i (unless_fine _ Mismatch (i + 1) p.1))
 
-  pub block-fine : GoodBlock (block_at a i) → InPlace a (blocks_in a) i → block_fault_at a i ≡ Fine
+  pub block_fine : GoodBlock (block_at a i) → InPlace a (blocks_in a) i → block_fault_at a i ≡ Fine
   unfolding block_fault
-  block-fine g p = rw (is_good (block_at a i) g, is-agreed a (blocks_in a) i p)
+  block_fine g p = rw (is_good (block_at a i) g, is_agreed a (blocks_in a) i p)
 
 -- ---- an accepted archive
 
@@ -99,7 +99,7 @@ fine_kept a e =
     let q = then_fine (first_fault (blocks_in a) (block_fault_at a)) (table_fault (table_in a)) p.1 in
     record {
       whole = whole_is a (unless_fine _ BadLength 0 p.0);
-      good = λ j h. block-good a j (each_fine (blocks_in a) (block_fault_at a) q.0 j h);
+      good = λ j h. block_good a j (each_fine (blocks_in a) (block_fault_at a) q.0 j h);
       table = q.1;
     }
 
@@ -108,6 +108,6 @@ unfolding archive_fault blocks_fault
 kept_fine a k =
     rw (
       is_whole a (blocks_in a) k.whole,
-      first_fine (blocks_in a) (block_fault_at a) (λ j h. block-fine a j (k.good j h).0 (k.good j h).1),
+      first_fine (blocks_in a) (block_fault_at a) (λ j h. block_fine a j (k.good j h).0 (k.good j h).1),
       k.table,
     )

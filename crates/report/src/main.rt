@@ -1,4 +1,6 @@
 // Reads a listing from standard input and prints the bound and the wait of each task, or the refusal.
+#![tactic(auto)]
+
 use console::Input;
 use libc::{STDERR_FILENO, STDOUT_FILENO};
 use table::Table;

@@ -84,18 +84,18 @@ front_eq f e = record { size = f.size; good = f.good; sum = λ t i. f.sum t i �
 
 -- one share more: its part that counts whole, and its two parts that are divided
 module _ (s : Shares) (k : ℕ) (g : SoundShare (share_at s k)) where
-  pub front-whole : {xs : List Part} {w r : ℕ} {e : Part}
+  pub front_whole : {xs : List Part} {w r : ℕ} {e : Part}
       → let a = share_at s k in
       Front max_tasks xs w (wholes s k) → w < max_tasks → r ≡ min 1 a.whole → PartIs a.period a.deadline a.whole e
       → Front max_tasks (set xs w e) (w + r) (wholes s (k + 1))
-  front-whole f h q p =
+  front_whole f h q p =
       front_eq (front_push f h q g.whole.units_deadline p) (λ t. sym (sum_more k (λ l. whole_of (share_at s l) t)))
 
-  pub front-parts : {xs : List Part} {w r r' : ℕ} {e e' : Part}
+  pub front_parts : {xs : List Part} {w r r' : ℕ} {e e' : Part}
       → let a = share_at s k in
       Front (2 * max_tasks) xs w (parts s k) → w + r < 2 * max_tasks → r ≡ min 1 a.one → PartIs a.period a.deadline a.one e
       → r' ≡ min 1 a.two → PartIs a.period a.deadline a.two e'
       → Front (2 * max_tasks) (set (set xs w e) (w + r) e') (w + r + r') (parts s (k + 1))
-  front-parts f h q p q' p' =
+  front_parts f h q p q' p' =
       front_eq (front_push (front_push f (omega arith) q g.one.units_deadline p) h q' g.two.units_deadline p')
       (λ t. add_assoc _ _ _ ∙ sym (sum_more k (λ l. part_of (share_at s l) t)))

@@ -60,15 +60,15 @@ part_is s d =
 
 -- q is a / T: the products of the code fit, and what it sums is the workload
 module _ (T x a q : ℕ) (e : q ≡ a / T) (h : x ≤ T) where
-  pub periods-fit : q * T ≤ a
-  periods-fit = rw e (div-mul-le_self a T)
+  pub periods_fit : q * T ≤ a
+  periods_fit = rw e (div-mul-le_self a T)
 
-  pub units-fit : q * x ≤ a
-  units-fit = omega (arith, periods-fit, mul-le-mul_left q h)
+  pub units_fit : q * x ≤ a
+  units_fit = omega (arith, periods_fit, mul-le-mul_left q h)
 
-  pub jobs-by : (r : ℕ) → r ≡ min x (a - q * T) → q * x + r ≡ jobs T x a
+  pub jobs_by : (r : ℕ) → r ≡ min x (a - q * T) → q * x + r ≡ jobs T x a
   unfolding jobs
-  jobs-by r f = rw (f, e)
+  jobs_by r f = rw (f, e)
 
 pub jobs_fit : (T x a : ℕ) → x ≤ T → jobs T x a ≤ a
 unfolding jobs

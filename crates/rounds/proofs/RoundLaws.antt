@@ -12,7 +12,7 @@ use Rattle.theory.specs.declared.Counted.{Counted}
 use Rattle.theory.specs.Work.{workload, ceil_div}
 use Rattle.theory.specs.Rounds.{one_more, counted_from}
 use Rattle.theory.proofs.LeastLaws.{Rises}
-use Rattle.theory.proofs.RoundLaws.{round-repeats, round-passes, round-goes-on}
+use Rattle.theory.proofs.RoundLaws.{round_repeats, round_passes, round_goes_on}
 use Rattle.theory.proofs.WorkLaws.{workload_rises, ceil_div_rises}
 use Rattle.rounds.specs.declared.Part.{Part}
 use Rattle.rounds.specs.declared.Wholes.{Wholes}
@@ -121,22 +121,22 @@ module _ {s : Shares} {D A t used f : ℕ} (r : Round s D A t used f) where
   on l e = omega (arith, r.is)
 
   next : t < f → f ≤ D → counted_from (shares_demand s) D (suc (A - (used + 1))) t ≡ one_more (counted_from (shares_demand s) D (A - (used + 1)) f)
-  next l k = rw r.is (round-goes-on (shares_demand s) D (A - (used + 1)) t (on l) (omega (arith, r.is)))
+  next l k = rw r.is (round_goes_on (shares_demand s) D (A - (used + 1)) t (on l) (omega (arith, r.is)))
 
-  pub round-meets : f ≤ t → record { verdict = Meets t; rounds = used + 1 } ≡ counted_from (shares_demand s) D A s.start
-  round-meets l = this (round-repeats (shares_demand s) D (A - (used + 1)) t (omega (arith, r.is, r.sought.up)))
+  pub round_meets : f ≤ t → record { verdict = Meets t; rounds = used + 1 } ≡ counted_from (shares_demand s) D A s.start
+  round_meets l = this (round_repeats (shares_demand s) D (A - (used + 1)) t (omega (arith, r.is, r.sought.up)))
 
-  pub round-misses : t < f → D < f → record { verdict = Misses; rounds = used + 1 } ≡ counted_from (shares_demand s) D A s.start
-  round-misses l k = this (round-passes (shares_demand s) D (A - (used + 1)) t (on l) (omega (arith, r.is)))
+  pub round_misses : t < f → D < f → record { verdict = Misses; rounds = used + 1 } ≡ counted_from (shares_demand s) D A s.start
+  round_misses l k = this (round_passes (shares_demand s) D (A - (used + 1)) t (on l) (omega (arith, r.is)))
 
-  pub round-open : t < f → f ≤ D → used + 1 ≡ A → record { verdict = Open; rounds = used + 1 } ≡ counted_from (shares_demand s) D A s.start
+  pub round_open : t < f → f ≤ D → used + 1 ≡ A → record { verdict = Open; rounds = used + 1 } ≡ counted_from (shares_demand s) D A s.start
   unfolding counted_from
-  round-open l k e =
+  round_open l k e =
       let z : A - (used + 1) ≡ 0 = omega arith in
       this (next l k ∙ ap (λ (n : ℕ). one_more (counted_from (shares_demand s) D n f)) z)
 
-  pub round-more : t < f → f ≤ D → (used + 1 ≡ A → ⊥) → Sought s D A f (used + 1)
-  round-more l k n =
+  pub round_more : t < f → f ≤ D → (used + 1 ≡ A → ⊥) → Sought s D A f (used + 1)
+  round_more l k n =
       let x = counted_from (shares_demand s) D (A - (used + 1)) f in
       let e : used + 1 + x.rounds ≡ used + suc x.rounds = omega arith in
       record {

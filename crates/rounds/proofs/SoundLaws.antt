@@ -65,13 +65,13 @@ head_tasks s D h = (head _ _ _ _ D h).tasks_most
 
 -- the test by its two parts
 module _ (s : Shares) (D : ℕ) where
-  pub sound-head : head_fits s.start s.base s.cpus s.n D ≡ false → is_sound s D ≡ false
+  pub sound_head : head_fits s.start s.base s.cpus s.n D ≡ false → is_sound s D ≡ false
   unfolding is_sound
-  sound-head e = rw e
+  sound_head e = rw e
 
-  pub sound-all : {b : Bool} → head_fits s.start s.base s.cpus s.n D ≡ true → all_to s.n (λ l. share_fits (share_at s l)) ≡ b → is_sound s D ≡ b
+  pub sound_all : {b : Bool} → head_fits s.start s.base s.cpus s.n D ≡ true → all_to s.n (λ l. share_fits (share_at s l)) ≡ b → is_sound s D ≡ b
   unfolding is_sound
-  sound-all e f = rw e f
+  sound_all e f = rw e f
 
 pub test_sound : (s : Shares) (D : ℕ) → is_sound s D ≡ true → SoundShares s D
 unfolding is_sound

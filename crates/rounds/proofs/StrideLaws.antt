@@ -1,4 +1,4 @@
--- Strides: why they change nothing, `rounds-alike`; and how a workload, and the demand, go on from a length.
+-- Strides: why they change nothing, `rounds_alike`; and how a workload, and the demand, go on from a length.
 -- Assumes nothing.
 use Prim.Native.Nat.{ℕ, zero, suc, ◌+◌, ◌-◌, ◌*◌, ◌/◌, ◌≤◌, ◌<◌, min}
 use mathlib.Core.Path.{◌≡◌, sym, ap, subst₂}
@@ -18,7 +18,7 @@ use Rattle.rounds.specs.Shares.{shares_demand}
 use Rattle.rounds.specs.Outcome.{SoundShares}
 use Rattle.rounds.specs.Parts.{part_at, part_uncapped, part_load, loads, GoodPart, WholesAre, DividedAre}
 use Rattle.rounds.specs.Strides.{Straight, CourseIs, GoneIs, StrideIs, rows_demand}
-use Rattle.rounds.proofs.RoundLaws.{Sought, Round, round-more}
+use Rattle.rounds.proofs.RoundLaws.{Sought, Round, round_more}
 
 -- ---- the rounds
 
@@ -26,13 +26,13 @@ use Rattle.rounds.proofs.RoundLaws.{Sought, Round, round-more}
 -- demand that the next begins at, so that none repeats its length; the length after them does not pass D; and one round is left after them of those allowed. So none of
 -- the r gives a verdict, and what is sought from t on is sought from t + r × climb on, after r rounds more.
 module _ {s : Shares} {D A t used climb : ℕ} (g : SoundShares s D) (p : 1 ≤ climb) where
-  pub rounds-alike : (r : ℕ) → Sought s D A t used → ((k : ℕ) → k < r → shares_demand s (t + k * climb) ≡ t + k * climb + climb)
+  pub rounds_alike : (r : ℕ) → Sought s D A t used → ((k : ℕ) → k < r → shares_demand s (t + k * climb) ≡ t + k * climb + climb)
       → t + r * climb ≤ D → used + r < A → Sought s D A (t + r * climb) (used + r)
-  rounds-alike zero q h a b = subst₂ (λ (v w : ℕ). Sought s D A v w) (omega arith) (omega arith) q
-  rounds-alike (suc r) q h a b =
-      let i : Sought s D A (t + r * climb) (used + r) = rounds-alike r q (λ k l. h k (omega arith)) (omega arith) (omega arith) in
+  rounds_alike zero q h a b = subst₂ (λ (v w : ℕ). Sought s D A v w) (omega arith) (omega arith) q
+  rounds_alike (suc r) q h a b =
+      let i : Sought s D A (t + r * climb) (used + r) = rounds_alike r q (λ k l. h k (omega arith)) (omega arith) (omega arith) in
       let o : Round s D A (t + r * climb) (used + r) (t + r * climb + climb) = record { sound = g; sought = i; is = sym (h r (omega arith)) } in
-      subst₂ (λ (v w : ℕ). Sought s D A v w) (omega arith) (omega arith) (round-more o (omega arith) (omega arith) (λ z. omega (arith, z)))
+      subst₂ (λ (v w : ℕ). Sought s D A v w) (omega arith) (omega arith) (round_more o (omega arith) (omega arith) (λ z. omega (arith, z)))
 
 -- the demand by the rows
 rows_are : {s : Shares} {w : Wholes} {d : Divided} → WholesAre s w → DividedAre s d → (t : ℕ) → 1 ≤ t
@@ -45,7 +45,7 @@ pub stride_more : {s : Shares} {w : Wholes} {d : Divided} {D A t used f climb re
     → Straight (rows_demand w d s.cpus) t 1 reach → StrideIs reach climb headway left r
     → t + climb ≡ f → 1 ≤ climb → t + headway ≤ D → used + left < A → Sought s D A (t + r * climb) (used + r)
 stride_more {s} {t} {climb} {r} o p q straight st e c a b =
-    rounds-alike o.sound c r o.sought alike (omega (arith, st.fits)) (omega (arith, st.few))
+    rounds_alike o.sound c r o.sought alike (omega (arith, st.fits)) (omega (arith, st.few))
   where
     alike : (k : ℕ) → k < r → shares_demand s (t + k * climb) ≡ t + k * climb + climb
     alike k i =
@@ -76,29 +76,29 @@ module _ (e : Part) (t : ℕ) (good : GoodPart e) where
   shift : (g : ℕ) → t + g + e.off ≡ t + e.off + g
   shift g = omega arith
 
-  load-on : {r : ℕ} → GoneIs e t r → (g : ℕ) → r + g ≤ e.period → part_uncapped e (t + g) ≡ (t + e.off) / e.period * e.units + min e.units (r + g)
-  load-on {r} p g h = rw (shift g, p.is) (jobs_on e.period e.units (t + e.off) g good.period_least good.units_period (omega (arith, p.is)) (dec_lt _ _))
+  load_on : {r : ℕ} → GoneIs e t r → (g : ℕ) → r + g ≤ e.period → part_uncapped e (t + g) ≡ (t + e.off) / e.period * e.units + min e.units (r + g)
+  load_on {r} p g h = rw (shift g, p.is) (jobs_on e.period e.units (t + e.off) g good.period_least good.units_period (omega (arith, p.is)) (dec_lt _ _))
 
   load_here : {r : ℕ} → GoneIs e t r → part_uncapped e t ≡ (t + e.off) / e.period * e.units + min e.units r
   unfolding jobs
   load_here p = rw p.is
 
-  pub goes-full : e.units ≡ e.period → (reach : ℕ) → Straight (part_load e) t 1 reach
-  goes-full q reach g h = rw q (omega (arith, jobs_full e.period (t + g + e.off) good.period_least, jobs_full e.period (t + e.off) good.period_least))
+  pub goes_full : e.units ≡ e.period → (reach : ℕ) → Straight (part_load e) t 1 reach
+  goes_full q reach g h = rw q (omega (arith, jobs_full e.period (t + g + e.off) good.period_least, jobs_full e.period (t + e.off) good.period_least))
 
   -- a job runs
-  pub goes-running : {r reach : ℕ} → GoneIs e t r → r + reach ≤ e.units → Straight (part_load e) t 1 reach
-  goes-running p h g k = omega (arith, good.units_period, load-on p g (omega (arith, good.units_period)), load_here p)
+  pub goes_running : {r reach : ℕ} → GoneIs e t r → r + reach ≤ e.units → Straight (part_load e) t 1 reach
+  goes_running p h g k = omega (arith, good.units_period, load_on p g (omega (arith, good.units_period)), load_here p)
 
   -- the cap holds it at t
-  pub goes-capped : {reach : ℕ} → t + reach ≤ part_uncapped e t → Straight (part_load e) t 1 reach
-  goes-capped h g k =
+  pub goes_capped : {reach : ℕ} → t + reach ≤ part_uncapped e t → Straight (part_load e) t 1 reach
+  goes_capped h g k =
       let l : t + e.off ≤ t + e.off + g = omega arith in
       rw (shift g) (omega (arith, jobs_rise {T = e.period} {T' = e.period} e.units good.period_least (le_refl e.period) l))
 
   -- neither does a job run nor does the cap hold it
   pub goes_flat : {r reach : ℕ} → GoneIs e t r → part_uncapped e t ≤ t → e.units ≤ r → r + reach ≤ e.period → Straight (part_load e) t 0 reach
-  goes_flat p l m h g k = omega (arith, load-on p g (omega arith), load_here p)
+  goes_flat p l m h g k = omega (arith, load_on p g (omega arith), load_here p)
 
 -- ---- the workloads of a row
 

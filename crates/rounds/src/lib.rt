@@ -1,4 +1,6 @@
 // The rounds over the shares of one task. They see numbers only: no share that counts nothing, and no division by a period.
+#![tactic(auto)]
+
 ghost use Rattle.std.specs.Prelude.{◌&&◌, ◌≡◌, ◌+◌, ◌/◌, ◌≤◌, min};
 ghost use Rattle.basics.specs.Choice.{within};
 ghost use Rattle.table.specs.Limits.{max_time};
@@ -13,7 +15,7 @@ use theory::{Counted, Verdict};
 mod strides;
 
 // What one task's analysis reads of another: the units of it that count whole, and the two counts that are divided by m.
-#[derive(Drop)]
+#[derive(Clone, Copy)]
 pub struct Share {
     pub period: u32,
     pub deadline: u32,
@@ -23,7 +25,7 @@ pub struct Share {
 }
 
 // C, C + DB, m, and a share for each of the n tasks.
-#[derive(Drop)]
+#[derive(Clone, Copy)]
 pub struct Shares {
     pub start: u32,
     pub base: u64,
@@ -33,7 +35,7 @@ pub struct Shares {
 }
 
 // The verdict and its rounds, or that the shares can be those of no accepted table.
-#[derive(Drop)]
+#[derive(Clone, Copy)]
 pub enum Outcome {
     Of(Counted),
     Unsound,
@@ -44,7 +46,7 @@ const MAX_BASE: u64 = Table::MAX_TIME as u64
     + Table::MAX_RESOURCES as u64 * (Table::MAX_COUNT as u64 * Table::MAX_TIME as u64);
 
 // Units of a task of this period, with off = D - units; a / period is a * mul >> shift.
-#[derive(Drop)]
+#[derive(Clone, Copy)]
 struct Part {
     period: u32,
     units: u32,
@@ -54,14 +56,14 @@ struct Part {
 }
 
 // The parts that count whole, in front of a row.
-#[derive(Drop)]
+#[derive(Clone, Copy)]
 struct Wholes {
     n: usize,
     of: [Part; Table::MAX_TASKS],
 }
 
 // The parts that are divided by m, in front of a row: two for each task at most.
-#[derive(Drop)]
+#[derive(Clone, Copy)]
 struct Divided {
     n: usize,
     of: [Part; 2 * Table::MAX_TASKS],
@@ -200,7 +202,7 @@ fn found(verdict: Verdict, rounds: u32) -> Counted
 }
 
 // The lengths from C on, each the demand at the one before, until one repeats or passes D, or the rounds that are allowed are used up. A stride
-// moves on past rounds that give no verdict, and counts them: `rounds-alike` of StrideLaws says why that changes nothing.
+// moves on past rounds that give no verdict, and counts them: `rounds_alike` of StrideLaws says why that changes nothing.
 fn iterate(s: Shares, deadline: u32, allowance: u32) -> Counted
     requires { SoundShares s deadline × (1 ≤ allowance) }
     ensures { result ≡ counted_from (shares_demand s) deadline allowance s.start }

@@ -9,7 +9,7 @@ use crate::{Divided, Part, Wholes, least, quot, uncapped};
 use table::Table;
 
 // How a workload, or a sum of them, goes on from a length: with each microsecond it rises by so much, this far at least.
-#[derive(Drop)]
+#[derive(Clone, Copy)]
 struct Course {
     rises: u64,
     reach: u32,

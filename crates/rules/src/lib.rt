@@ -1,4 +1,6 @@
 // The rules that a table and a listing are both held to: 4, 5, 7, 17 and 18; and 10, of a task that is asked about. And which of two refusals is given.
+#![tactic(auto)]
+
 ghost use Rattle.std.specs.Prelude.{◌≡◌};
 ghost use Rattle.basics.specs.Choice.{within};
 ghost use Rattle.table.specs.Faults.{◌then◌};

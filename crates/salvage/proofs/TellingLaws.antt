@@ -12,8 +12,8 @@ use lib.Seq.{take_at}
 use lib.Dec.{eqb}
 use Rattle.basics.specs.Choice.{pick}
 use Rattle.basics.specs.Over.{join_to, row_to}
-use Rattle.basics.proofs.JoinLaws.{join-bound, join-eq}
-use Rattle.basics.proofs.RowLaws.{row-length, row_at}
+use Rattle.basics.proofs.JoinLaws.{join_bound, join_eq}
+use Rattle.basics.proofs.RowLaws.{row_length, row_at}
 use Rattle.table.specs.declared.Checked.{Checked}
 use Rattle.table.specs.declared.Checked.TheVariants.{Fine, Refused}
 use Rattle.table.specs.declared.Written.{Written}
@@ -29,7 +29,7 @@ use Rattle.salvaging.specs.declared.Fate.TheVariants.{Bad, Doubled, Kept, Moved}
 use Rattle.salvaging.specs.Fates.{code_of, fate_at, code_at, codes_of}
 use Rattle.salvaging.specs.Salvage.{max_blocks, is_card, blocks_of, has_room, room_fault, salvage_fault, salvage_answer, listed}
 use Rattle.salvaging.proofs.AnswerLaws.{card_whole}
-use Rattle.salvaging.proofs.FoundLaws.{codes_length, blocks, blocks-room, answer_is}
+use Rattle.salvaging.proofs.FoundLaws.{codes_length, blocks, blocks_room, answer_is}
 use Rattle.salvage.specs.Telling.{max_card, fate_word, code_word, word_line, fate_line, code_line, wrote_length, refused_by, told_text}
 
 -- ---- how long the parts are
@@ -48,7 +48,7 @@ unfolding word_line
 line_most position code h = simp length-append (omega (arith, count_small position (omega arith), word_most code))
 
 pub lines_most : (n : ℕ) (list : List ℕ) → n ≤ max_blocks → length (join_to n (code_line list)) ≤ n * 19
-lines_most n list h = join-bound n 19 (code_line list) (λ i l. line_most (i + 1) (byte_at list i) (omega arith))
+lines_most n list h = join_bound n 19 (code_line list) (λ i l. line_most (i + 1) (byte_at list i) (omega arith))
 
 -- ---- from the list to the blocks
 
@@ -61,7 +61,7 @@ word_is Moved = refl
 -- the lines of a list that holds the first k codes
 pub lines_are : (s : List ℕ) (k : ℕ) {list : List ℕ} → list ≡ row_to k (code_at s) → join_to (length list) (code_line list) ≡ join_to k (fate_line s)
 lines_are s k e =
-    rw (e, row-length k (code_at s)) (join-eq k (code_line (row_to k (code_at s))) (fate_line s) (λ i h. ap (word_line (i + 1)) (ap code_word (row_at k i (code_at s) 0 h) ∙ word_is (fate_at s i))))
+    rw (e, row_length k (code_at s)) (join_eq k (code_line (row_to k (code_at s))) (fate_line s) (λ i h. ap (word_line (i + 1)) (ap code_word (row_at k i (code_at s) 0 h) ∙ word_is (fate_at s i))))
 
 -- which the list does, where there is room for every card
 list_card : (s list : List ℕ) (room : ℕ) → max_blocks ≤ length list → max_card ≤ room → is_card (length s) ≡ true → listed s list room ≡ codes_of s ++ drop (length (codes_of s)) list
@@ -94,4 +94,4 @@ written_most Fine n = le_refl n
 written_most (Refused r) n = omega arith
 
 pub archive_most : (s : List ℕ) (entries room : ℕ) {x : ℕ} → x ≡ wrote_length (salvage_answer s entries room) → x ≤ room
-archive_most s entries room e = rw (e, ← answer_is s entries room) (omega (arith, written_most (salvage_fault s entries room) (512 * blocks s entries room), blocks-room s entries room))
+archive_most s entries room e = rw (e, ← answer_is s entries room) (omega (arith, written_most (salvage_fault s entries room) (512 * blocks s entries room), blocks_room s entries room))

@@ -1,4 +1,6 @@
 // Reads a card from standard input and writes the archive that its blocks make; what became of each block, and a refusal, go to standard error.
+#![tactic(auto)]
+
 use console::Input;
 use libc::{STDERR_FILENO, STDOUT_FILENO};
 

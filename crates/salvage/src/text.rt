@@ -19,7 +19,7 @@ pub(crate) const CARD: usize = MAX_BLOCKS * SIZE;
 pub(crate) const TOLD: usize = MAX_BLOCKS * 19 + 56;
 
 // How many bytes of an archive, and of what is told, were written.
-#[derive(Drop)]
+#[derive(Clone, Copy)]
 pub(crate) struct Made {
     pub(crate) archive: usize,
     pub(crate) told: usize,

@@ -41,18 +41,18 @@ good_same s i g = ap (λ (n : ℕ). ltb n i) (first_eq i (λ j. same_bytes (bloc
 -- ---- what becomes of a block, case by case
 
 module _ (s : List ℕ) (i : ℕ) where
-  pub fate-bad : good_at s i ≡ false → fate_at s i ≡ Bad
+  pub fate_bad : good_at s i ≡ false → fate_at s i ≡ Bad
   unfolding fate_at
-  fate-bad g = rw g
+  fate_bad g = rw g
 
-  pub fate-doubled : good_at s i ≡ true → is_doubled s i ≡ true → fate_at s i ≡ Doubled
+  pub fate_doubled : good_at s i ≡ true → is_doubled s i ≡ true → fate_at s i ≡ Doubled
   unfolding fate_at
-  fate-doubled g d = rw (g, d)
+  fate_doubled g d = rw (g, d)
 
-  pub fate-kept : good_at s i ≡ true → is_doubled s i ≡ false → number_on s i ≡ i + 1 → fate_at s i ≡ Kept
+  pub fate_kept : good_at s i ≡ true → is_doubled s i ≡ false → number_on s i ≡ i + 1 → fate_at s i ≡ Kept
   unfolding fate_at
-  fate-kept g d e = rw (g, d, eq-eqb (number_on s i) (i + 1) e)
+  fate_kept g d e = rw (g, d, eq-eqb (number_on s i) (i + 1) e)
 
-  pub fate-moved : good_at s i ≡ true → is_doubled s i ≡ false → (number_on s i ≡ i + 1 → ⊥) → fate_at s i ≡ Moved
+  pub fate_moved : good_at s i ≡ true → is_doubled s i ≡ false → (number_on s i ≡ i + 1 → ⊥) → fate_at s i ≡ Moved
   unfolding fate_at
-  fate-moved g d e = rw (g, d, ne_eqb (number_on s i) (i + 1) e)
+  fate_moved g d e = rw (g, d, ne_eqb (number_on s i) (i + 1) e)

@@ -13,7 +13,7 @@ use Rattle.basics.specs.Over.{sum_to, row_to}
 use Rattle.basics.proofs.ChoiceLaws.{and_true, only_below}
 use Rattle.basics.proofs.AllLaws.{all_at}
 use Rattle.basics.proofs.SumLaws.{sum_eq, sum_bound}
-use Rattle.basics.proofs.RowLaws.{row-length, row_at}
+use Rattle.basics.proofs.RowLaws.{row_length, row_at}
 use Rattle.block.specs.declared.Head.{Head}
 use Rattle.block.specs.Block.{head_in}
 use Rattle.card.specs.Archive.{block_at}
@@ -24,7 +24,7 @@ use Rattle.basics.proofs.CountLaws.{count_some, sum_ones, sum_swap, count_number
 -- those of a list that was filled with codes
 pub left_row : (k : ℕ) (g : ℕ → ℕ) → left_in (row_to k g) ≡ sum_to k (λ i. only (leb 2 (g i)) 1)
 unfolding left_in
-left_row k g = rw (row-length k g) (sum_eq k (λ i. only (left_at (row_to k g) i) 1) (λ i. only (leb 2 (g i)) 1) (λ i h. rw (row_at k i g 0 h)))
+left_row k g = rw (row_length k g) (sum_eq k (λ i. only (left_at (row_to k g) i) 1) (λ i. only (leb 2 (g i)) 1) (λ i h. rw (row_at k i g 0 h)))
 
 pub left_most : (list : List ℕ) → left_in list ≤ length list
 unfolding left_in
@@ -52,9 +52,9 @@ module _ (s list : List ℕ) (e : is_complete s list ≡ true) where
       go false q = refl
 
   -- so there are n
-  pub complete-left : left_in list ≡ first.n
+  pub complete_left : left_in list ≡ first.n
   unfolding left_in how_many
-  complete-left =
+  complete_left =
       let n = first.n in
       sum_eq (length list) (λ i. only (left_at list i) 1) (λ i. sum_to n (λ p. only (left_at list i && eqb (number_on s i) (p + 1)) 1))
       (λ i h. numbered i h ∙ sym (count_number n (number_on s i) (left_at list i)))
@@ -63,6 +63,6 @@ module _ (s list : List ℕ) (e : is_complete s list ≡ true) where
       ∙ sum_ones n
 
   -- and each number up to there is somewhere
-  pub complete-placed : Placed s list (left_in list)
+  pub complete_placed : Placed s list (left_in list)
   unfolding place_of how_many
-  complete-placed p h = count_some (length list) (left_with s list (p + 1)) (omega (arith, once p (omega (arith, complete-left))))
+  complete_placed p h = count_some (length list) (left_with s list (p + 1)) (omega (arith, once p (omega (arith, complete_left))))

@@ -13,8 +13,8 @@ use Rattle.basics.specs.Choice.{pick}
 use Rattle.basics.specs.Over.{join_to, row_to}
 use Rattle.basics.specs.Text.{put_into}
 use Rattle.basics.proofs.ChoiceLaws.{pick_when}
-use Rattle.basics.proofs.JoinLaws.{join_more, join-even}
-use Rattle.basics.proofs.RowLaws.{row-eq, over_none, over-more, over-same}
+use Rattle.basics.proofs.JoinLaws.{join_more, join_even}
+use Rattle.basics.proofs.RowLaws.{row_eq, over_none, over_more, over_same}
 use Rattle.basics.proofs.FillLaws.{rest_at, back_at, Filled, filled_part, rest_length}
 use Rattle.table.specs.declared.Task.{Task}
 use Rattle.table.specs.declared.Table.{Table}
@@ -34,19 +34,19 @@ module _ (s list : List ℕ) (n : ℕ) (l : 512 * length list ≤ length s) (h :
   abbrev pub numbered : ℕ → List ℕ
   numbered p = block_at s (place_of s list (p + 1))
 
-  numbered-long : (p : ℕ) → p < n → length (numbered p) ≡ 512
-  numbered-long p m = block_long s (place_of s list (p + 1)) (omega (arith, h p m))
+  numbered_long : (p : ℕ) → p < n → length (numbered p) ≡ 512
+  numbered_long p m = block_long s (place_of s list (p + 1)) (omega (arith, h p m))
 
-  pub order-long : length (in_order s list n) ≡ 512 * n
+  pub order_long : length (in_order s list n) ≡ 512 * n
   unfolding in_order
-  order-long = join-even n 512 numbered numbered-long
+  order_long = join_even n 512 numbered numbered_long
 
-  order-blocks : blocks_in (in_order s list n) ≡ n
-  order-blocks = omega (arith, order-long)
+  order_blocks : blocks_in (in_order s list n) ≡ n
+  order_blocks = omega (arith, order_long)
 
-  pub order-at : (p : ℕ) → p < n → block_at (in_order s list n) p ≡ numbered p
+  pub order_at : (p : ℕ) → p < n → block_at (in_order s list n) p ≡ numbered p
   unfolding in_order
-  order-at p m = part_of_lem n p numbered numbered-long m
+  order_at p m = part_of_lem n p numbered numbered_long m
 
 -- ---- the table
 
@@ -63,21 +63,21 @@ unfolding empty_table
 tasks_start s list e = rw e (over_none (λ j. task_in (block_at s (place_of s list (j + 1)))) (replicate max_tasks empty_task))
 
 pub tasks_more : (s list : List ℕ) (p : ℕ) {xs : List Task} → p < max_tasks → xs ≡ tasks_to s list p → set xs p (task_in (block_at s (place_of s list (p + 1)))) ≡ tasks_to s list (p + 1)
-tasks_more s list p h e = rw e (over-more (λ j. task_in (block_at s (place_of s list (j + 1)))) p (replicate max_tasks empty_task) (omega (arith, length-replicate max_tasks empty_task)))
+tasks_more s list p h e = rw e (over_more (λ j. task_in (block_at s (place_of s list (j + 1)))) p (replicate max_tasks empty_task) (omega (arith, length-replicate max_tasks empty_task)))
 
 module _ (s list : List ℕ) (n : ℕ) (l : 512 * length list ≤ length s) (h : Placed s list n) where
   -- all of them, or as many as a table holds
-  tasks-done : (p : ℕ) → p ≤ max_tasks → ((i : ℕ) → i < max_tasks → ltb i p ≡ ltb i n) → tasks_to s list p ≡ (table_in (in_order s list n)).tasks
+  tasks_done : (p : ℕ) → p ≤ max_tasks → ((i : ℕ) → i < max_tasks → ltb i p ≡ ltb i n) → tasks_to s list p ≡ (table_in (in_order s list n)).tasks
   unfolding table_in
-  tasks-done p m d =
-      over-same (λ j. task_in (block_at s (place_of s list (j + 1)))) empty_task p max_tasks m
-      ∙ rw (order-blocks s list n l h) (row-eq max_tasks (λ i. pick (ltb i p) (task_in (block_at s (place_of s list (i + 1)))) empty_task) (λ i. pick (ltb i n) (task_in (block_at (in_order s list n) i)) empty_task)
-      (λ i k. rw (d i k) (pick_when empty_task (ltb i n) (λ q. ap task_in (sym (order-at s list n l h i (ltb-true i n q)))))))
+  tasks_done p m d =
+      over_same (λ j. task_in (block_at s (place_of s list (j + 1)))) empty_task p max_tasks m
+      ∙ rw (order_blocks s list n l h) (row_eq max_tasks (λ i. pick (ltb i p) (task_in (block_at s (place_of s list (i + 1)))) empty_task) (λ i. pick (ltb i n) (task_in (block_at (in_order s list n) i)) empty_task)
+      (λ i k. rw (d i k) (pick_when empty_task (ltb i n) (λ q. ap task_in (sym (order_at s list n l h i (ltb-true i n q)))))))
 
   pub table_done : (p : ℕ) {t : Table} → p ≤ max_tasks → ((i : ℕ) → i < max_tasks → ltb i p ≡ ltb i n) → t.cpus ≡ (head_in (block_at (in_order s list n) 0)).cpus → t.n ≡ n → t.groups ≡ no_groups → t.tasks ≡ tasks_to s list p
       → t ≡ table_in (in_order s list n)
   unfolding table_in
-  table_done p m d e f z g = λ j. record { cpus = e j; n = (f ∙ sym (order-blocks s list n l h)) j; groups = z j; tasks = (g ∙ tasks-done p m d) j }
+  table_done p m d e f z g = λ j. record { cpus = e j; n = (f ∙ sym (order_blocks s list n l h)) j; groups = z j; tasks = (g ∙ tasks_done p m d) j }
 
 -- ---- the blocks, put one after the other
 

@@ -12,7 +12,7 @@ use block::SIZE;
 use table::{Checked, Fault, Refusal, Written};
 
 // What 15 and 11 say, and what all refusals say.
-#[derive(Drop)]
+#[derive(Clone, Copy)]
 pub(crate) struct Found {
     pub(crate) fits: Checked,
     pub(crate) fault: Checked,

@@ -1,4 +1,6 @@
 // A card that comes back with blocks spoiled, doubled or in the wrong order: what becomes of each block, and the archive that the good ones make.
+#![tactic(auto)]
+
 ghost use Rattle.std.specs.Prelude.{◌≡◌, length};
 ghost use Rattle.salvaging.specs.Fates.{code_of};
 ghost use Rattle.salvaging.specs.Salvage.{max_blocks, blocks_of, salvage_answer, listed, salvaged};
@@ -15,7 +17,7 @@ mod mending;
 pub const MAX_BLOCKS: usize = 64;
 
 // What becomes of a block of the input.
-#[derive(Drop)]
+#[derive(Clone, Copy)]
 pub enum Fate {
     Bad,
     Doubled,

@@ -22,9 +22,9 @@ use Rattle.windows.proofs.ServedLaws.{hits}
 use Rattle.schedules.specs.Jobs.{JobSet, in_lock, Generated}
 use Rattle.schedules.specs.Schedule.{Schedule, progress, needs, begins}
 use Rattle.schedules.proofs.FactLaws.{Obeys, WaitsFor, waits_for_lem}
-use Rattle.schedules.proofs.ProgressLaws.{unit-below}
+use Rattle.schedules.proofs.ProgressLaws.{unit_below}
 use Rattle.schedules.proofs.RequestLaws.{inside}
-use Rattle.schedules.proofs.BlockerLaws.{blocked, Blocker, blocker, at_unit, longest_below, needs-at, request-most}
+use Rattle.schedules.proofs.BlockerLaws.{blocked, Blocker, blocker, at_unit, longest_below, needs_at, request_most}
 
 times : (n : ℕ) (q : ℕ → Bool) (b : ℕ) → sum_to n (λ u. only (q u) b) ≡ count_to n q * b
 unfolding sum_to
@@ -47,9 +47,9 @@ module _ (v : View) (J : JobSet) (S : Schedule) (E : ℕ) (o : Generated v J) (p
     asks : ℕ → ℕ → Bool
     asks k u = in_lock J i j k u && J.starts i j u
 
-    unit-most : (u : ℕ) → u < J.cost i j → hits (at_unit v J S i u) A t ≤ sum_to max_resources (λ k. only (asks k u) (longest_below v i k))
+    unit_most : (u : ℕ) → u < J.cost i j → hits (at_unit v J S i u) A t ≤ sum_to max_resources (λ k. only (asks k u) (longest_below v i k))
     unfolding hits at_unit asks
-    unit-most u c = go (dec_lt (first_to t (λ s. at_unit v J S i u (A + s))) t)
+    unit_most u c = go (dec_lt (first_to t (λ s. at_unit v J S i u (A + s))) t)
       where
         f : First t (λ s. at_unit v J S i u (A + s)) (first_to t (λ s. at_unit v J S i u (A + s)))
         f = first_is t (λ s. at_unit v J S i u (A + s))
@@ -74,7 +74,7 @@ module _ (v : View) (J : JobSet) (S : Schedule) (E : ℕ) (o : Generated v J) (p
             un = eqb-true (progress J S B i).unit u seen.1
 
             lock : needs J S B i ≡ J.lock i j u
-            lock = needs-at v J S E o p i j A t l end at B (omega arith) (omega arith) u un
+            lock = needs_at v J S E o p i j A t l end at B (omega arith) (omega arith) u un
 
             pos : 0 < needs J S B i
             pos = subst (λ (x : ℕ). 0 < x) (sym g.needing) (p.holder_needs B b.h (omega arith) b.small g.holding)
@@ -94,14 +94,14 @@ module _ (v : View) (J : JobSet) (S : Schedule) (E : ℕ) (o : Generated v J) (p
                 let x = sum_part max_resources k (λ k. only (asks k u) (longest_below v i k)) kn in
                 let y : asks k u ≡ true = and_both _ _ (eq-eqb _ _ e) (begun ∙ starting (begins J S B i) refl) in
                 let w : only (asks k u) (longest_below v i k) ≡ longest_below v i k = rw y in
-                omega (arith, request-most v J S E o p i j A t l end at u (first_to t (λ s. at_unit v J S i u (A + s))) k d (f.found d) e kn f.clear)
+                omega (arith, request_most v J S E o p i j A t l end at u (first_to t (λ s. at_unit v J S i u (A + s))) k d (f.found d) e kn f.clear)
 
-    pub DB-most : hits (blocked v J S i) A t ≤ DB v (level i)
+    pub DB_most : hits (blocked v J S i) A t ≤ DB v (level i)
     unfolding hits DB longest_below at_unit asks
-    DB-most =
+    DB_most =
         le_trans (sum_le t (λ s. only (blocked v J S i (A + s)) 1) (λ s. sum_to (J.cost i j) (λ u. only (at_unit v J S i u (A + s)) 1)) (λ s m. put s m))
         (subst (λ (w : ℕ). w ≤ DB v (level i)) (sym (sum_swap t (J.cost i j) (λ s u. only (at_unit v J S i u (A + s)) 1)))
-        (le_trans (sum_le (J.cost i j) (λ u. hits (at_unit v J S i u) A t) (λ u. sum_to max_resources (λ k. only (asks k u) (longest_below v i k))) (λ u m. unit-most u m))
+        (le_trans (sum_le (J.cost i j) (λ u. hits (at_unit v J S i u) A t) (λ u. sum_to max_resources (λ k. only (asks k u) (longest_below v i k))) (λ u m. unit_most u m))
         (subst (λ (w : ℕ). w ≤ DB v (level i)) (sym (sum_swap (J.cost i j) max_resources (λ u k. only (asks k u) (longest_below v i k))))
         (sum_le max_resources (λ k. sum_to (J.cost i j) (λ u. only (asks k u) (longest_below v i k)))
         (λ k. only (uses v (level i) (resource k)) (v.N (level i) (resource k) * longest_below v i k))
@@ -112,7 +112,7 @@ module _ (v : View) (J : JobSet) (S : Schedule) (E : ℕ) (o : Generated v J) (p
         put s m =
             let u = (progress J S (A + s) i).unit in
             let jb = at (A + s) (omega arith) (omega arith) in
-            let b : u < J.cost i j = subst (λ (q : ℕ). u < J.cost i q) jb (unit-below J S i (λ q. o.some i q l) (A + s)) in
+            let b : u < J.cost i j = subst (λ (q : ℕ). u < J.cost i q) jb (unit_below J S i (λ q. o.some i q l) (A + s)) in
             le_trans (self (blocked v J S i (A + s)) u) (sum_part (J.cost i j) u (λ u. only (at_unit v J S i u (A + s)) 1) b)
           where
             self : (c : Bool) (u : ℕ) → only c 1 ≤ only (c && eqb u u) 1

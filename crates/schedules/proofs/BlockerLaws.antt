@@ -21,8 +21,8 @@ use Rattle.windows.proofs.ServedLaws.{hits, hits_all}
 use Rattle.schedules.specs.Jobs.{JobSet, in_lock, stretch, Generated}
 use Rattle.schedules.specs.Schedule.{Schedule, progress, needs, waits_for}
 use Rattle.schedules.proofs.FactLaws.{Obeys, waits_for_lem}
-use Rattle.schedules.proofs.ProgressLaws.{ran-most}
-use Rattle.schedules.proofs.RequestLaws.{at-stretch, Same, Stage, still, staged, found}
+use Rattle.schedules.proofs.ProgressLaws.{ran_most}
+use Rattle.schedules.proofs.RequestLaws.{at_stretch, Same, Stage, still, staged, found}
 
 -- one below i holds the lock that i waits for, and runs
 abbrev pub blocks : JobSet → Schedule → ℕ → ℕ → ℕ → Bool
@@ -58,8 +58,8 @@ module _ (v : View) (J : JobSet) (S : Schedule) (E : ℕ) (o : Generated v J) (p
 
   -- a window of t from A on, before the end of the run, in which task i is at its job j
   module _ (i j A t : ℕ) (l : i < v.n) (end : A + t ≤ E) (at : (s : ℕ) → A ≤ s → s < A + t → (progress J S s i).job ≡ j) where
-    pub needs-at : (s : ℕ) → A ≤ s → s < A + t → (u : ℕ) → (progress J S s i).unit ≡ u → needs J S s i ≡ J.lock i j u
-    needs-at s a b u y = ap (λ (q : ℕ). J.lock i q (progress J S s i).unit) (at s a b) ∙ ap (J.lock i j) y
+    pub needs_at : (s : ℕ) → A ≤ s → s < A + t → (u : ℕ) → (progress J S s i).unit ≡ u → needs J S s i ≡ J.lock i j u
+    needs_at s a b u y = ap (λ (q : ℕ). J.lock i q (progress J S s i).unit) (at s a b) ∙ ap (J.lock i j) y
 
     largest : (k h : ℕ) → h < v.n → i < h → v.c (level h) (resource k) ≤ longest_below v i k
     unfolding longest_below
@@ -86,13 +86,13 @@ module _ (v : View) (J : JobSet) (S : Schedule) (E : ℕ) (o : Generated v J) (p
       j₀ = (progress J S (A + s₀) b₀.h).job
 
       q₀ : ℕ
-      q₀ = at-stretch v J S E o p (A + s₀) b₀.h
+      q₀ = at_stretch v J S E o p (A + s₀) b₀.h
 
-      one-stretch : ℕ → Bool
-      one-stretch u = in_lock J h₀ j₀ k u && eqb (stretch J h₀ j₀ u) q₀
+      one_stretch : ℕ → Bool
+      one_stretch u = in_lock J h₀ j₀ k u && eqb (stretch J h₀ j₀ u) q₀
 
       own : ℕ → Bool
-      own s = S.runs s h₀ && (eqb (progress J S s h₀).job j₀ && one-stretch (progress J S s h₀).unit)
+      own s = S.runs s h₀ && (eqb (progress J S s h₀).job j₀ && one_stretch (progress J S s h₀).unit)
 
       start : Stage v J S E o p i j u h₀ j₀ q₀ l (A + s₀)
       unfolding h₀ j₀ q₀
@@ -107,16 +107,16 @@ module _ (v : View) (J : JobSet) (S : Schedule) (E : ℕ) (o : Generated v J) (p
               let g = waits_for_lem J S (A + s₀) i b₀.h b₀.waited in
               p.one_at_a_time (A + s₀) h b₀.h (omega arith) m b₀.small f.holding g.holding (sym f.needing ∙ g.needing)
 
-          same : (h : ℕ) → h ≡ b₀.h → Same v J S E o p i j u b₀.h (progress J S (A + s₀) b₀.h).job (at-stretch v J S E o p (A + s₀) b₀.h) l (A + s₀) h
-          same h z = record { task = z; job = ap (λ (x : ℕ). (progress J S (A + s₀) x).job) z; inside-it = ap (at-stretch v J S E o p (A + s₀)) z }
+          same : (h : ℕ) → h ≡ b₀.h → Same v J S E o p i j u b₀.h (progress J S (A + s₀) b₀.h).job (at_stretch v J S E o p (A + s₀) b₀.h) l (A + s₀) h
+          same h z = record { task = z; job = ap (λ (x : ℕ). (progress J S (A + s₀) x).job) z; inside_it = ap (at_stretch v J S E o p (A + s₀)) z }
 
-      is-own : (s h : ℕ) → h ≡ h₀ → S.runs s h ≡ true → (progress J S s h).job ≡ j₀ → needs J S s h ≡ suc k → at-stretch v J S E o p s h ≡ q₀ → own s ≡ true
-      unfolding own one-stretch
-      is-own s h z r jb lk rq =
+      is_own : (s h : ℕ) → h ≡ h₀ → S.runs s h ≡ true → (progress J S s h).job ≡ j₀ → needs J S s h ≡ suc k → at_stretch v J S E o p s h ≡ q₀ → own s ≡ true
+      unfolding own one_stretch
+      is_own s h z r jb lk rq =
           go (subst (λ (x : ℕ). S.runs s x ≡ true) z r) (subst (λ (x : ℕ). (progress J S s x).job ≡ j₀) z jb)
-          (subst (λ (x : ℕ). needs J S s x ≡ suc k) z lk) (subst (λ (x : ℕ). at-stretch v J S E o p s x ≡ q₀) z rq)
+          (subst (λ (x : ℕ). needs J S s x ≡ suc k) z lk) (subst (λ (x : ℕ). at_stretch v J S E o p s x ≡ q₀) z rq)
         where
-          go : S.runs s h₀ ≡ true → (progress J S s h₀).job ≡ j₀ → needs J S s h₀ ≡ suc k → at-stretch v J S E o p s h₀ ≡ q₀ → own s ≡ true
+          go : S.runs s h₀ ≡ true → (progress J S s h₀).job ≡ j₀ → needs J S s h₀ ≡ suc k → at_stretch v J S E o p s h₀ ≡ q₀ → own s ≡ true
           go r jb lk rq =
               and_both _ _ r (and_both _ _ (eq-eqb _ _ jb) (and_both _ _
               (eq-eqb _ _ (subst (λ (x : ℕ). J.lock h₀ x (progress J S s h₀).unit ≡ suc k) jb lk))
@@ -131,14 +131,14 @@ module _ (v : View) (J : JobSet) (S : Schedule) (E : ℕ) (o : Generated v J) (p
           let w : A + s₀ + (s - s₀) ≡ A + s = omega arith in
           let ft = subst (λ (z : ℕ). Stage v J S E o p i j u h₀ j₀ q₀ l z) w (staged v J S E o p i j u h₀ j₀ q₀ l (A + s₀) (s - s₀) (omega arith) start) in
           let sm = found v J S E o p i j u h₀ j₀ q₀ l (A + s) b.h b.small ft (at (A + s) (omega arith) (omega arith)) un b.below b.waited in
-          let lk = sym (waits_for_lem J S (A + s) i b.h b.waited).needing ∙ needs-at (A + s) (omega arith) (omega arith) u un ∙ need in
-          is-own (A + s) b.h sm.task b.runs sm.job lk sm.inside-it
+          let lk = sym (waits_for_lem J S (A + s) i b.h b.waited).needing ∙ needs_at (A + s) (omega arith) (omega arith) u un ∙ need in
+          is_own (A + s) b.h sm.task b.runs sm.job lk sm.inside_it
 
-      pub request-most : k < max_resources → ((s : ℕ) → s < s₀ → at_unit v J S i u (A + s) ≡ false) → hits (at_unit v J S i u) A t ≤ longest_below v i k
-      unfolding hits own one-stretch h₀
-      request-most kn clear =
+      pub request_most : k < max_resources → ((s : ℕ) → s < s₀ → at_unit v J S i u (A + s) ≡ false) → hits (at_unit v J S i u) A t ≤ longest_below v i k
+      unfolding hits own one_stretch h₀
+      request_most kn clear =
           le_trans (sum_le t (λ s. only (at_unit v J S i u (A + s)) 1) (λ s. only (own (A + s)) 1) (λ s m. each s m (at_unit v J S i u (A + s)) refl (dec_lt s s₀)))
-          (le_trans (omega (arith, hits_all own A t)) (le_trans (ran-most J S h₀ (λ q. o.some h₀ q b₀.small) j₀ one-stretch (A + t))
+          (le_trans (omega (arith, hits_all own A t)) (le_trans (ran_most J S h₀ (λ q. o.some h₀ q b₀.small) j₀ one_stretch (A + t))
           (le_trans (o.longest h₀ j₀ k q₀ b₀.small kn) (largest k h₀ b₀.small b₀.below))))
         where
           each : (s : ℕ) → s < t → (c : Bool) → at_unit v J S i u (A + s) ≡ c → Dec (s < s₀) → only c 1 ≤ only (own (A + s)) 1

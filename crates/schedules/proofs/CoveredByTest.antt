@@ -19,8 +19,8 @@ use Rattle.schedules.specs.Theorem.{Constrained, Covers}
 
 module _ (v : View) where
   -- the rules of `Constrained`, in its order
-  unfoldable pub constrainedRules : List Bool
-  constrainedRules =
+  unfoldable pub constrained_rules : List Bool
+  constrained_rules =
       leb 1 v.cpus
       ∷ all_to v.n (λ l. leb 1 (v.T (level l)))
       ∷ all_to v.n (λ l. leb (v.C (level l)) (v.D (level l)))
@@ -29,13 +29,13 @@ module _ (v : View) where
       ∷ all_to v.n (λ l. all_to max_resources (λ k. pick (eqb (v.N (level l) (resource k)) 0) (eqb (v.CT (level l) (resource k)) 0) true))
       ∷ []
 
-  abbrev pub constrainedTest : Bool
-  constrainedTest = all_to 6 (λ r. get_or constrainedRules r true)
+  abbrev pub constrained_test : Bool
+  constrained_test = all_to 6 (λ r. get_or constrained_rules r true)
 
-  pub constrained-by-test : constrainedTest ≡ true → Constrained v
-  unfolding constrainedRules
-  constrained-by-test e =
-      let rule : (r : ℕ) → T (ltb r 6) → get_or constrainedRules r true ≡ true = λ r h. all_at 6 r _ e (lit< h) in
+  pub constrained_by_test : constrained_test ≡ true → Constrained v
+  unfolding constrained_rules
+  constrained_by_test e =
+      let rule : (r : ℕ) → T (ltb r 6) → get_or constrained_rules r true ≡ true = λ r h. all_at 6 r _ e (lit< h) in
       record {
         some = leb-true _ _ (rule 0 tt);
         positive = λ l h. leb-true _ _ (all_at v.n l _ (rule 1 tt) h);
@@ -47,20 +47,20 @@ module _ (v : View) where
 
   module _ (demand : View → Level → ℕ → ℕ) (x : ℕ → Bool) (R : ℕ → ℕ) where
     -- the rules of `Covers`, in its order
-    unfoldable pub coversRules : List Bool
-    coversRules =
+    unfoldable pub covers_rules : List Bool
+    covers_rules =
         all_to v.n (λ i. pick (x i) (leb 1 (R i)) true)
         ∷ all_to v.n (λ i. pick (x i) (leb (R i) (v.D (level i))) true)
         ∷ all_to v.n (λ i. pick (x i) (leb (demand v (level i) (R i)) (R i)) true)
         ∷ []
 
-    abbrev pub coversTest : Bool
-    coversTest = all_to 3 (λ r. get_or coversRules r true)
+    abbrev pub covers_test : Bool
+    covers_test = all_to 3 (λ r. get_or covers_rules r true)
 
-    pub covers-by-test : coversTest ≡ true → Covers demand v (λ i. x i ≡ true) R
-    unfolding coversRules
-    covers-by-test e =
-        let rule : (r : ℕ) → T (ltb r 3) → get_or coversRules r true ≡ true = λ r h. all_at 3 r _ e (lit< h) in
+    pub covers_by_test : covers_test ≡ true → Covers demand v (λ i. x i ≡ true) R
+    unfolding covers_rules
+    covers_by_test e =
+        let rule : (r : ℕ) → T (ltb r 3) → get_or covers_rules r true ≡ true = λ r h. all_at 3 r _ e (lit< h) in
         record {
           low = λ i h y. leb-true _ _ (pick_is _ _ (all_at v.n i _ (rule 0 tt) h) y);
           high = λ i h y. leb-true _ _ (pick_is _ _ (all_at v.n i _ (rule 1 tt) h) y);

@@ -25,39 +25,39 @@ just_before_lem (suc q) r p e h = let z : r ≡ q = omega arith in rw z e
 
 module _ (v : View) (J : JobSet) (S : Schedule) (s : ℕ) where
   -- each task that passes the first test passes the second
-  abbrev eachThat : (ℕ → Bool) → (ℕ → Bool) → Bool
-  eachThat p q = all_to v.n (λ l. pick (p l) (q l) true)
+  abbrev each_that : (ℕ → Bool) → (ℕ → Bool) → Bool
+  each_that p q = all_to v.n (λ l. pick (p l) (q l) true)
 
   -- the facts of `FactAt`, in its order
-  unfoldable pub factTest : KernelFact → Bool
-  factTest runs_pending = eachThat (S.runs s) (pending J S s)
-  factTest runs_locked = eachThat (λ l. S.runs s l && ltb 0 (needs J S s l)) (S.holds s)
-  factTest conserves =
-      eachThat (λ l. pending J S s l && (not (waits v J S s l) && not (S.runs s l)))
+  unfoldable pub fact_test : KernelFact → Bool
+  fact_test runs_pending = each_that (S.runs s) (pending J S s)
+  fact_test runs_locked = each_that (λ l. S.runs s l && ltb 0 (needs J S s l)) (S.holds s)
+  fact_test conserves =
+      each_that (λ l. pending J S s l && (not (waits v J S s l) && not (S.runs s l)))
       (λ l. leb v.cpus (count_to v.n (ahead v J S s l)))
-  factTest one_holder = eachThat (S.holds s) (λ l. eachThat (λ w. S.holds s w && eqb (needs J S s l) (needs J S s w)) (eqb l))
-  factTest holds_pending = eachThat (S.holds s) (pending J S s)
-  factTest holds_lock = eachThat (S.holds s) (λ l. ltb 0 (needs J S s l))
-  factTest keeps = just_before s (λ r. eachThat (λ l. S.holds r l && not (S.runs r l)) (S.holds s))
-  factTest goes_on = just_before s (λ r. eachThat (λ l. S.runs r l && (ltb 0 (needs J S s l) && not (begins J S s l))) (S.holds s))
-  factTest asked_on = just_before s (λ r. eachThat (λ l. S.asked r l && not (S.runs r l)) (S.asked s))
-  factTest not_past =
-      just_before s (λ r. eachThat (got_after J S r) (λ l. eachThat (λ w. S.asked r w && (not (S.runs r w) && waits_for J S s w l)) (ltb l)))
+  fact_test one_holder = each_that (S.holds s) (λ l. each_that (λ w. S.holds s w && eqb (needs J S s l) (needs J S s w)) (eqb l))
+  fact_test holds_pending = each_that (S.holds s) (pending J S s)
+  fact_test holds_lock = each_that (S.holds s) (λ l. ltb 0 (needs J S s l))
+  fact_test keeps = just_before s (λ r. each_that (λ l. S.holds r l && not (S.runs r l)) (S.holds s))
+  fact_test goes_on = just_before s (λ r. each_that (λ l. S.runs r l && (ltb 0 (needs J S s l) && not (begins J S s l))) (S.holds s))
+  fact_test asked_on = just_before s (λ r. each_that (λ l. S.asked r l && not (S.runs r l)) (S.asked s))
+  fact_test not_past =
+      just_before s (λ r. each_that (got_after J S r) (λ l. each_that (λ w. S.asked r w && (not (S.runs r w) && waits_for J S s w l)) (ltb l)))
 
-  pub fact-by-test : (f : KernelFact) → factTest f ≡ true → FactAt v J S s f
-  unfolding factTest FactAt
-  fact-by-test runs_pending e = λ l h. pick_is _ _ (all_at v.n l _ e h)
-  fact-by-test runs_locked e = λ l h a n. pick_is _ _ (all_at v.n l _ e h) (and_both _ _ a (lt-ltb 0 _ n))
-  fact-by-test conserves e = λ l h p w a. leb-true _ _ (pick_is _ _ (all_at v.n l _ e h) (and_both _ _ p (and_both _ _ (ap not w) (ap not a))))
-  fact-by-test one_holder e = λ l w h k a b n.
+  pub fact_by_test : (f : KernelFact) → fact_test f ≡ true → FactAt v J S s f
+  unfolding fact_test FactAt
+  fact_by_test runs_pending e = λ l h. pick_is _ _ (all_at v.n l _ e h)
+  fact_by_test runs_locked e = λ l h a n. pick_is _ _ (all_at v.n l _ e h) (and_both _ _ a (lt-ltb 0 _ n))
+  fact_by_test conserves e = λ l h p w a. leb-true _ _ (pick_is _ _ (all_at v.n l _ e h) (and_both _ _ p (and_both _ _ (ap not w) (ap not a))))
+  fact_by_test one_holder e = λ l w h k a b n.
       let f = pick_is _ _ (all_at v.n l _ e h) a in
       eqb-true _ _ (pick_is _ _ (all_at v.n w _ f k) (and_both _ _ b (eq-eqb _ _ n)))
-  fact-by-test holds_pending e = λ l h. pick_is _ _ (all_at v.n l _ e h)
-  fact-by-test holds_lock e = λ l h a. ltb-true _ _ (pick_is _ _ (all_at v.n l _ e h) a)
-  fact-by-test keeps e = λ r l i h a b. pick_is _ _ (all_at v.n l _ (just_before_lem s r _ e i) h) (and_both _ _ a (ap not b))
-  fact-by-test goes_on e = λ r l i h a n b.
+  fact_by_test holds_pending e = λ l h. pick_is _ _ (all_at v.n l _ e h)
+  fact_by_test holds_lock e = λ l h a. ltb-true _ _ (pick_is _ _ (all_at v.n l _ e h) a)
+  fact_by_test keeps e = λ r l i h a b. pick_is _ _ (all_at v.n l _ (just_before_lem s r _ e i) h) (and_both _ _ a (ap not b))
+  fact_by_test goes_on e = λ r l i h a n b.
       pick_is _ _ (all_at v.n l _ (just_before_lem s r _ e i) h) (and_both _ _ a (and_both _ _ (lt-ltb 0 _ n) (ap not b)))
-  fact-by-test asked_on e = λ r l i h a b. pick_is _ _ (all_at v.n l _ (just_before_lem s r _ e i) h) (and_both _ _ a (ap not b))
-  fact-by-test not_past e = λ r l w i h k g a b c.
+  fact_by_test asked_on e = λ r l i h a b. pick_is _ _ (all_at v.n l _ (just_before_lem s r _ e i) h) (and_both _ _ a (ap not b))
+  fact_by_test not_past e = λ r l w i h k g a b c.
       let f = pick_is _ _ (all_at v.n l _ (just_before_lem s r _ e i) h) g in
       ltb-true _ _ (pick_is _ _ (all_at v.n w _ f k) (and_both _ _ a (and_both _ _ (ap not b) c)))

@@ -26,58 +26,58 @@ count_at_most n q = let b = sum_bound n 1 (λ u. only (q u) 1) (λ u l. only_bel
 
 module _ (J : JobSet) (l j k : ℕ) where
   -- how many units of a stretch use the resource; a job has no more stretches than units
-  abbrev inStretch : ℕ → ℕ
-  inStretch q = count_to (J.cost l j) (λ u. in_lock J l j k u && eqb (stretch J l j u) q)
+  abbrev in_stretch : ℕ → ℕ
+  in_stretch q = count_to (J.cost l j) (λ u. in_lock J l j k u && eqb (stretch J l j u) q)
 
-  no-stretch : (q : ℕ) → J.cost l j < q → inStretch q ≡ 0
-  no-stretch q h =
+  no_stretch : (q : ℕ) → J.cost l j < q → in_stretch q ≡ 0
+  no_stretch q h =
       count_none (J.cost l j) _ (λ u i. apart (in_lock J l j k u) (ne_eqb (stretch J l j u) q (λ e. omega (arith, count_at_most (suc u) (J.starts l j)))))
     where
       apart : (b : Bool) {c : Bool} → c ≡ false → (b && c) ≡ false
       apart true e = e
       apart false e = refl
 
-  each-stretch : (c : ℕ) → all_to (suc (J.cost l j)) (λ q. leb (inStretch q) c) ≡ true → (q : ℕ) → inStretch q ≤ c
-  each-stretch c e q = go (dec_lt (J.cost l j) q)
+  each_stretch : (c : ℕ) → all_to (suc (J.cost l j)) (λ q. leb (in_stretch q) c) ≡ true → (q : ℕ) → in_stretch q ≤ c
+  each_stretch c e q = go (dec_lt (J.cost l j) q)
     where
-      go : Dec (J.cost l j < q) → inStretch q ≤ c
-      go (yes d) = omega (arith, no-stretch q d)
+      go : Dec (J.cost l j < q) → in_stretch q ≤ c
+      go (yes d) = omega (arith, no_stretch q d)
       go (no d) = leb-true _ _ (all_at (suc (J.cost l j)) q _ e (omega arith))
 
 module _ (v : View) (p : Picture) where
-  abbrev jobsDrawn : JobSet
-  jobsDrawn = jobs_of p
+  abbrev jobs_drawn : JobSet
+  jobs_drawn = jobs_of p
 
   -- of each task and resource, a count over the units of its first job, which the others are like
-  abbrev pairsWithin : (ℕ → ℕ → ℕ → Bool) → (ℕ → ℕ → ℕ) → Bool
-  pairsWithin q most = all_to v.n (λ l. all_to max_resources (λ k. leb (count_to (jobsDrawn.cost l 0) (q l k)) (most l k)))
+  abbrev pairs_within : (ℕ → ℕ → ℕ → Bool) → (ℕ → ℕ → ℕ) → Bool
+  pairs_within q most = all_to v.n (λ l. all_to max_resources (λ k. leb (count_to (jobs_drawn.cost l 0) (q l k)) (most l k)))
 
   -- the rules of `Generated`, in its order
-  unfoldable pub generatedRules : List Bool
-  generatedRules =
+  unfoldable pub generated_rules : List Bool
+  generated_rules =
       all_to v.n (λ l. leb (v.T (level l)) (get_or p.gaps l 0))
-      ∷ all_to v.n (λ l. leb 1 (jobsDrawn.cost l 0))
-      ∷ all_to v.n (λ l. leb (jobsDrawn.cost l 0) (v.C (level l)))
-      ∷ all_to v.n (λ l. all_to (jobsDrawn.cost l 0) (λ u. leb (jobsDrawn.lock l 0 u) max_resources))
-      ∷ pairsWithin (λ l k u. in_lock jobsDrawn l 0 k u && jobsDrawn.starts l 0 u) (λ l k. v.N (level l) (resource k))
-      ∷ all_to v.n (λ l. all_to max_resources (λ k. all_to (suc (jobsDrawn.cost l 0)) (λ q. leb (inStretch jobsDrawn l 0 k q) (v.c (level l) (resource k)))))
-      ∷ pairsWithin (λ l k u. in_lock jobsDrawn l 0 k u) (λ l k. v.CT (level l) (resource k))
+      ∷ all_to v.n (λ l. leb 1 (jobs_drawn.cost l 0))
+      ∷ all_to v.n (λ l. leb (jobs_drawn.cost l 0) (v.C (level l)))
+      ∷ all_to v.n (λ l. all_to (jobs_drawn.cost l 0) (λ u. leb (jobs_drawn.lock l 0 u) max_resources))
+      ∷ pairs_within (λ l k u. in_lock jobs_drawn l 0 k u && jobs_drawn.starts l 0 u) (λ l k. v.N (level l) (resource k))
+      ∷ all_to v.n (λ l. all_to max_resources (λ k. all_to (suc (jobs_drawn.cost l 0)) (λ q. leb (in_stretch jobs_drawn l 0 k q) (v.c (level l) (resource k)))))
+      ∷ pairs_within (λ l k u. in_lock jobs_drawn l 0 k u) (λ l k. v.CT (level l) (resource k))
       ∷ []
 
-  abbrev pub generatedTest : Bool
-  generatedTest = all_to 7 (λ r. get_or generatedRules r true)
+  abbrev pub generated_test : Bool
+  generated_test = all_to 7 (λ r. get_or generated_rules r true)
 
-  pub generated-by-test : generatedTest ≡ true → Generated v (jobs_of p)
-  unfolding generatedRules jobs_of
-  generated-by-test e =
-      let rule : (r : ℕ) → T (ltb r 7) → get_or generatedRules r true ≡ true = λ r h. all_at 7 r _ e (lit< h) in
+  pub generated_by_test : generated_test ≡ true → Generated v (jobs_of p)
+  unfolding generated_rules jobs_of
+  generated_by_test e =
+      let rule : (r : ℕ) → T (ltb r 7) → get_or generated_rules r true ≡ true = λ r h. all_at 7 r _ e (lit< h) in
       record {
         apart = λ l j h. let i : v.T (level l) ≤ get_or p.gaps l 0 = leb-true _ _ (all_at v.n l _ (rule 0 tt) h) in omega arith;
         some = λ l j h. leb-true _ _ (all_at v.n l _ (rule 1 tt) h);
         run = λ l j h. leb-true _ _ (all_at v.n l _ (rule 2 tt) h);
         known = λ l j u h i. leb-true _ _ (all_at _ u _ (all_at v.n l _ (rule 3 tt) h) i);
         count = λ l j k h i. leb-true _ _ (all_at max_resources k _ (all_at v.n l _ (rule 4 tt) h) i);
-        longest = λ l j k q h i. each-stretch jobsDrawn l j k _ (all_at max_resources k _ (all_at v.n l _ (rule 5 tt) h) i) q;
+        longest = λ l j k q h i. each_stretch jobs_drawn l j k _ (all_at max_resources k _ (all_at v.n l _ (rule 5 tt) h) i) q;
         total = λ l j k h i. leb-true _ _ (all_at max_resources k _ (all_at v.n l _ (rule 6 tt) h) i);
         first = λ l j h. refl;
         same = λ l j u h i e. eqb-true _ _ (not-false _ e);

@@ -1,24 +1,24 @@
 -- The laws of schedules, from an instant to the theorem, and what shows that it is not said of nothing and needs what it asks for.
 --   FactLaws         Obeys, obeys: the facts of a run by name; WaitsFor, waits_for_lem
---   ProgressLaws     what a task has run of each job: ran, ran-most; unit-below, job-rises, job-most, stay, moved
+--   ProgressLaws     what a task has run of each job: ran, ran_most; unit_below, job_rises, job_most, stay, moved
 --   TallyLaws        counting: count_into, by the lock (count_among), by rank (rank_low, rank_mid, rank_high)
 --   LoadLaws         what a task runs in a window of a run is at most its workload: load
 --   InstantLaws      why a job that is there does not run: why; at most i run above i: above-most
 --   RequestLaws      one request of a job waits for one request below it: staged, found
---   BlockerLaws      for how long: request-most
---   BlockLaws        (6): DB-most
+--   BlockerLaws      for how long: request_most
+--   BlockLaws        (6): DB_most
 --   UnitLaws         the units of a job, as S, O, F and L count them
---   TermLaws         (7) to (10): S-most, O-most, F-most, L-most
---   AboveLaws        who runs above i runs a unit of S, O, F or L: runs-all
---   KindLaws         (11): each instant is of one kind: kinds, full-most
+--   TermLaws         (7) to (10): S_most, O_most, F_most, L_most
+--   AboveLaws        who runs above i runs a unit of S, O, F or L: runs_all
+--   KindLaws         (11): each instant is of one kind: kinds, full_most
 --   MeetLaws         by induction over the instants: in_time
 --   TimesLaws        the terms in k-ths of the time unit
---   FinerLaws        whole_unit, constrained-finer, closed-finer, covers-finer
+--   FinerLaws        whole_unit, constrained_finer, closed_finer, covers_finer
 --   FactsByTest, GeneratedByTest, CoveredByTest, RunsByTest   what a drawn run is held to, by tests that compute
 --   RefuteLaws       a drawn run in which a job takes longer: refuted
 --   NeededHolds      needed_holds, kernels_holds, terms_holds, all_read_holds
 --   TheoremHolds     theorem1_holds
---   AlikeLaws        two instants that are alike: fact-alike
+--   AlikeLaws        two instants that are alike: fact_alike
 --   RepeatLaws       a run that repeats: repeats
 --   LeastByTest      least_by_test, none_by_test
 --   ShownHolds       shown_holds

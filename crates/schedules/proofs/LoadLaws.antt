@@ -17,7 +17,7 @@ use Rattle.windows.specs.Sporadic.{Sporadic}
 use Rattle.schedules.specs.Jobs.{JobSet}
 use Rattle.schedules.specs.Schedule.{Schedule, progress, pending}
 use Rattle.windows.proofs.ServedLaws.{hits, served_most}
-use Rattle.schedules.proofs.ProgressLaws.{job-most, ran-most}
+use Rattle.schedules.proofs.ProgressLaws.{job_most, ran_most}
 
 -- the task runs a unit that counts
 abbrev pub works : JobSet → Schedule → ℕ → (ℕ → ℕ → Bool) → ℕ → Bool
@@ -36,9 +36,9 @@ unfolding ticks hits
 load J S l T D x A t P pos hx hD some apart ready most met =
     let c : Sporadic T D x (A + t) (J.release l) (ticks J S l P) = record {
       apart = apart;
-      released = λ s j h e. at-release s j h e;
+      released = λ s j h e. at_release s j h e;
       in_time = λ s j h e. at_end s j h e (dec_lt s (J.release l j + D));
-      most = λ j. le_trans (ran-most J S l some j (P j) (A + t)) (most j);
+      most = λ j. le_trans (ran_most J S l some j (P j) (A + t)) (most j);
     } in
     le_trans
     (sum_le t (λ s. only (works J S l P (A + s)) 1) (λ s. count_to (A + t) (ticks J S l P (A + s))) (λ s h. one (A + s) (omega arith)))
@@ -50,8 +50,8 @@ load J S l T D x A t P pos hx hD some apart ready most met =
         let b = and_true (eqb (progress J S s l).job j) (P j (progress J S s l).unit) a.1 in
         (a.0, eqb-true (progress J S s l).job j b.0)
 
-    at-release : (s j : ℕ) → s < A + t → ticks J S l P s j ≡ true → J.release l j ≤ s
-    at-release s j h e = let o = own s j e in let r = leb-true (J.release l (progress J S s l).job) s (ready s h o.0) in rw o.1 at r
+    at_release : (s j : ℕ) → s < A + t → ticks J S l P s j ≡ true → J.release l j ≤ s
+    at_release s j h e = let o = own s j e in let r = leb-true (J.release l (progress J S s l).job) s (ready s h o.0) in rw o.1 at r
 
     at_end : (s j : ℕ) → s < A + t → ticks J S l P s j ≡ true → Dec (s < J.release l j + D) → s < J.release l j + D
     at_end s j h e (yes d) = d
@@ -61,4 +61,4 @@ load J S l T D x A t P pos hx hD some apart ready most met =
     one s h =
         let j = (progress J S s l).job in
         let e : ticks J S l P s j ≡ works J S l P s = rw (eq-eqb j j refl) in
-        rw (← e) (sum_part (A + t) j (λ i. only (ticks J S l P s i) 1) (omega (arith, job-most J S l some s)))
+        rw (← e) (sum_part (A + t) j (λ i. only (ticks J S l P s i) 1) (omega (arith, job_most J S l some s)))

@@ -32,88 +32,88 @@ unfolding counts
 other_job j P p e = rw (ne_eqb p.job j e)
 
 module _ (J : JobSet) (l : ℕ) where
-  step-unit : (p : Progress) → ltb (suc p.unit) (J.cost l p.job) ≡ true → onward J l true p ≡ record { job = p.job; unit = suc p.unit }
+  step_unit : (p : Progress) → ltb (suc p.unit) (J.cost l p.job) ≡ true → onward J l true p ≡ record { job = p.job; unit = suc p.unit }
   unfolding onward
-  step-unit p e = rw e
+  step_unit p e = rw e
 
-  step-job : (p : Progress) → ltb (suc p.unit) (J.cost l p.job) ≡ false → onward J l true p ≡ record { job = suc p.job; unit = 0 }
+  step_job : (p : Progress) → ltb (suc p.unit) (J.cost l p.job) ≡ false → onward J l true p ≡ record { job = suc p.job; unit = 0 }
   unfolding onward
-  step-job p e = rw e
+  step_job p e = rw e
 
-  ran-step : (j : ℕ) (P : ℕ → Bool) (p : Progress) (c : ℕ) → p.unit < J.cost l p.job → Ran J l j P p c → (b : Bool)
+  ran_step : (j : ℕ) (P : ℕ → Bool) (p : Progress) (c : ℕ) → p.unit < J.cost l p.job → Ran J l j P p c → (b : Bool)
       → Ran J l j P (onward J l b p) (c + only (b && counts j P p) 1)
   unfolding onward sum_to
-  ran-step j P p c h r false = let z : c + 0 ≡ c = omega arith in rw z r
-  ran-step j P p c h r true = go (ltb (suc p.unit) (J.cost l p.job)) refl (ℕ_discrete p.job j)
+  ran_step j P p c h r false = let z : c + 0 ≡ c = omega arith in rw z r
+  ran_step j P p c h r true = go (ltb (suc p.unit) (J.cost l p.job)) refl (ℕ_discrete p.job j)
     where
       go : (b : Bool) → ltb (suc p.unit) (J.cost l p.job) ≡ b → Dec (p.job ≡ j) → Ran J l j P (onward J l true p) (c + only (counts j P p) 1)
-      go true e (yes d) = rw (step-unit p e, same_job j P p d) (record {
+      go true e (yes d) = rw (step_unit p e, same_job j P p d) (record {
         not_yet = λ m. absurd (omega arith);
         now = λ m. omega (arith, r.now d);
         done = λ m. absurd (omega arith);
       })
-      go true e (no d) = rw (step-unit p e, other_job j P p d) (record {
+      go true e (no d) = rw (step_unit p e, other_job j P p d) (record {
         not_yet = λ m. omega (arith, r.not_yet m);
         now = λ m. absurd (d m);
         done = λ m. omega (arith, r.done m);
       })
       go false e (yes d) =
           let f : suc p.unit ≡ J.cost l j = rw (← d) (omega (arith, ltb-false (suc p.unit) (J.cost l p.job) e)) in
-          rw (step-job p e, same_job j P p d) (record {
+          rw (step_job p e, same_job j P p d) (record {
             not_yet = λ m. absurd (omega arith);
             now = λ m. absurd (omega arith);
             done = λ m. rw (← f) (omega (arith, r.now d));
           })
-      go false e (no d) = rw (step-job p e, other_job j P p d) (record {
+      go false e (no d) = rw (step_job p e, other_job j P p d) (record {
         not_yet = λ m. omega (arith, r.not_yet (omega arith));
         now = λ m. omega (arith, r.not_yet (omega arith));
         done = λ m. omega (arith, r.done (omega arith));
       })
 
-  step-below : ((j : ℕ) → 1 ≤ J.cost l j) → (p : Progress) → p.unit < J.cost l p.job → (b : Bool)
+  step_below : ((j : ℕ) → 1 ≤ J.cost l j) → (p : Progress) → p.unit < J.cost l p.job → (b : Bool)
       → ((onward J l b p).unit < J.cost l (onward J l b p).job) × (p.job ≤ (onward J l b p).job) × ((onward J l b p).job ≤ suc p.job)
   unfolding onward
-  step-below some p h false = (h, le_refl _, omega arith)
-  step-below some p h true = go (ltb (suc p.unit) (J.cost l p.job)) refl
+  step_below some p h false = (h, le_refl _, omega arith)
+  step_below some p h true = go (ltb (suc p.unit) (J.cost l p.job)) refl
     where
       go : (b : Bool) → ltb (suc p.unit) (J.cost l p.job) ≡ b
           → ((onward J l true p).unit < J.cost l (onward J l true p).job) × (p.job ≤ (onward J l true p).job) × ((onward J l true p).job ≤ suc p.job)
-      go true e = rw (step-unit p e) (ltb-true _ _ e, le_refl _, omega arith)
-      go false e = rw (step-job p e) (some (suc p.job), omega arith, omega arith)
+      go true e = rw (step_unit p e) (ltb-true _ _ e, le_refl _, omega arith)
+      go false e = rw (step_job p e) (some (suc p.job), omega arith, omega arith)
 
 module _ (J : JobSet) (S : Schedule) (l : ℕ) (some : (j : ℕ) → 1 ≤ J.cost l j) where
-  pub unit-below : (s : ℕ) → (progress J S s l).unit < J.cost l (progress J S s l).job
+  pub unit_below : (s : ℕ) → (progress J S s l).unit < J.cost l (progress J S s l).job
   unfolding progress
-  unit-below zero = some 0
-  unit-below (suc s) = (step-below J l some (progress J S s l) (unit-below s) (S.runs s l)).0
+  unit_below zero = some 0
+  unit_below (suc s) = (step_below J l some (progress J S s l) (unit_below s) (S.runs s l)).0
 
-  job-next : (s : ℕ) → ((progress J S s l).job ≤ (progress J S (suc s) l).job) × ((progress J S (suc s) l).job ≤ suc (progress J S s l).job)
+  job_next : (s : ℕ) → ((progress J S s l).job ≤ (progress J S (suc s) l).job) × ((progress J S (suc s) l).job ≤ suc (progress J S s l).job)
   unfolding progress
-  job-next s = let b = step-below J l some (progress J S s l) (unit-below s) (S.runs s l) in (b.1, b.2)
+  job_next s = let b = step_below J l some (progress J S s l) (unit_below s) (S.runs s l) in (b.1, b.2)
 
-  pub job-rises : (s t : ℕ) → s ≤ t → (progress J S s l).job ≤ (progress J S t l).job
-  job-rises s zero h = let e : s ≡ 0 = omega arith in rw e (le_refl _)
-  job-rises s (suc t) h = go (ℕ_discrete s (suc t)) (λ m. job-rises s t m)
+  pub job_rises : (s t : ℕ) → s ≤ t → (progress J S s l).job ≤ (progress J S t l).job
+  job_rises s zero h = let e : s ≡ 0 = omega arith in rw e (le_refl _)
+  job_rises s (suc t) h = go (ℕ_discrete s (suc t)) (λ m. job_rises s t m)
     where
       go : Dec (s ≡ suc t) → (s ≤ t → (progress J S s l).job ≤ (progress J S t l).job) → (progress J S s l).job ≤ (progress J S (suc t) l).job
       go (yes e) i = rw e (le_refl _)
-      go (no d) i = omega (arith, i (omega arith), job-next t)
+      go (no d) i = omega (arith, i (omega arith), job_next t)
 
-  pub job-most : (s : ℕ) → (progress J S s l).job ≤ s
+  pub job_most : (s : ℕ) → (progress J S s l).job ≤ s
   unfolding progress
-  job-most zero = le_refl 0
-  job-most (suc s) = omega (arith, job-most s, job-next s)
+  job_most zero = le_refl 0
+  job_most (suc s) = omega (arith, job_most s, job_next s)
 
   pub ran : (j : ℕ) (P : ℕ → Bool) (s : ℕ)
       → Ran J l j P (progress J S s l) (count_to s (λ u. S.runs u l && (eqb (progress J S u l).job j && P (progress J S u l).unit)))
   unfolding progress sum_to counts
   ran j P zero = record { not_yet = λ m. refl; now = λ m. refl; done = λ m. absurd (omega arith) }
-  ran j P (suc s) = ran-step J l j P (progress J S s l) _ (unit-below s) (ran j P s) (S.runs s l)
+  ran j P (suc s) = ran_step J l j P (progress J S s l) _ (unit_below s) (ran j P s) (S.runs s l)
 
   -- never more than the job's units that count
-  pub ran-most : (j : ℕ) (P : ℕ → Bool) (s : ℕ)
+  pub ran_most : (j : ℕ) (P : ℕ → Bool) (s : ℕ)
       → count_to s (λ u. S.runs u l && (eqb (progress J S u l).job j && P (progress J S u l).unit)) ≤ count_to (J.cost l j) P
-  ran-most j P s = go (ran j P s) (unit-below s) (dec_lt (progress J S s l).job j) (dec_lt j (progress J S s l).job)
+  ran_most j P s = go (ran j P s) (unit_below s) (dec_lt (progress J S s l).job j) (dec_lt j (progress J S s l).job)
     where
       go : {c : ℕ} → Ran J l j P (progress J S s l) c → (progress J S s l).unit < J.cost l (progress J S s l).job
           → Dec ((progress J S s l).job < j) → Dec (j < (progress J S s l).job) → c ≤ count_to (J.cost l j) P
@@ -137,5 +137,5 @@ unfolding progress
 moved J S s l e A f g = go (ltb (suc (progress J S s l).unit) (J.cost l (progress J S s l).job)) refl
   where
     go : (b : Bool) → ltb (suc (progress J S s l).unit) (J.cost l (progress J S s l).job) ≡ b → A
-    go true h = f (rw e (step-unit J l (progress J S s l) h))
-    go false h = g (rw e (step-job J l (progress J S s l) h))
+    go true h = f (rw e (step_unit J l (progress J S s l) h))
+    go false h = g (rw e (step_job J l (progress J S s l) h))

@@ -17,8 +17,8 @@ use Rattle.schedules.specs.Jobs.{JobSet}
 use Rattle.schedules.specs.Schedule.{Schedule, progress, Finished}
 use Rattle.schedules.specs.Theorem.{NoneLonger, finer}
 use Rattle.schedules.specs.Picture.{Picture, jobs_of, run_of}
-use Rattle.schedules.proofs.GeneratedByTest.{generatedTest, generated-by-test}
-use Rattle.schedules.proofs.CoveredByTest.{constrainedTest, constrained-by-test, coversTest, covers-by-test}
+use Rattle.schedules.proofs.GeneratedByTest.{generated_test, generated_by_test}
+use Rattle.schedules.proofs.CoveredByTest.{constrained_test, constrained_by_test, covers_test, covers_by_test}
 
 -- of these tasks, with these lengths, the first job of the one at the slot `late` is not finished in time
 module _ (demand : View → Level → ℕ → ℕ) (v : View) (p : Picture) (x : ℕ → Bool) (R : ℕ → ℕ) (late : ℕ) where
@@ -26,27 +26,27 @@ module _ (demand : View → Level → ℕ → ℕ) (v : View) (p : Picture) (x :
   abbrev pub due : ℕ
   due = (jobs_of p).release late 0 + R late
 
-  unfoldable pub refutingRules : List Bool
-  refutingRules =
-      constrainedTest v
-      ∷ coversTest v demand x R
-      ∷ generatedTest (finer 1 v) p
+  unfoldable pub refuting_rules : List Bool
+  refuting_rules =
+      constrained_test v
+      ∷ covers_test v demand x R
+      ∷ generated_test (finer 1 v) p
       ∷ ltb late v.n
       ∷ x late
       ∷ eqb (progress (jobs_of p) (run_of p) due late).job 0
       ∷ []
 
   abbrev pub refutes : Bool
-  refutes = all_to 6 (λ r. get_or refutingRules r true)
+  refutes = all_to 6 (λ r. get_or refuting_rules r true)
 
   pub refuted : (Tasks : View → (ℕ → Type 0) → Type 0) (Run : View → JobSet → Schedule → ℕ → Type 0) → refutes ≡ true → Tasks v (λ i. x i ≡ true) → Run (finer 1 v) (jobs_of p) (run_of p) due
       → NoneLonger demand Tasks Run → ⊥
-  unfolding refutingRules
+  unfolding refuting_rules
   refuted Tasks Run e c run bounds =
-      let rule : (r : ℕ) → T (ltb r 6) → get_or refutingRules r true ≡ true = λ r h. all_at 6 r _ e (lit< h) in
-      let system = constrained-by-test v (rule 0 tt) in
-      let lengths = covers-by-test v demand x R (rule 1 tt) in
-      let generated = generated-by-test (finer 1 v) p (rule 2 tt) in
+      let rule : (r : ℕ) → T (ltb r 6) → get_or refuting_rules r true ≡ true = λ r h. all_at 6 r _ e (lit< h) in
+      let system = constrained_by_test v (rule 0 tt) in
+      let lengths = covers_by_test v demand x R (rule 1 tt) in
+      let generated = generated_by_test (finer 1 v) p (rule 2 tt) in
       let within : Finished (jobs_of p) (run_of p) late 0 due =
       bounds v system (λ i. x i ≡ true) c R lengths 1 (le_refl 1) (jobs_of p) generated (run_of p) due run late (ltb-true _ _ (rule 3 tt)) (rule 4 tt) 0 due (omega arith) (le_refl due) in
       let unfinished : (progress (jobs_of p) (run_of p) due late).job ≡ 0 = eqb-true _ _ (rule 5 tt) in

@@ -13,12 +13,12 @@ use Rattle.theory.specs.View.{View}
 use Rattle.schedules.specs.Jobs.{JobSet, stretch, Generated}
 use Rattle.schedules.specs.Schedule.{Schedule, Progress, progress, needs, begins, waits_for, got_after}
 use Rattle.schedules.proofs.FactLaws.{Obeys, WaitsFor, waits_for_lem}
-use Rattle.schedules.proofs.ProgressLaws.{stay, moved, job-rises, unit-below}
+use Rattle.schedules.proofs.ProgressLaws.{stay, moved, job_rises, unit_below}
 
 module _ (v : View) (J : JobSet) (S : Schedule) (E : ℕ) (o : Generated v J) (p : Obeys v J S E) where
   -- the stretch that the task is in
-  abbrev pub at-stretch : ℕ → ℕ → ℕ
-  at-stretch s l = stretch J l (progress J S s l).job (progress J S s l).unit
+  abbrev pub at_stretch : ℕ → ℕ → ℕ
+  at_stretch s l = stretch J l (progress J S s l).job (progress J S s l).unit
 
   -- who is inside a request has its lock
   pub inside : (s l : ℕ) → s < E → l < v.n → 0 < needs J S s l → begins J S s l ≡ false → S.holds s l ≡ true
@@ -33,11 +33,11 @@ module _ (v : View) (J : JobSet) (S : Schedule) (E : ℕ) (o : Generated v J) (p
           p.kept s l b h (ih (subst (λ (x : Progress). 0 < J.lock l x.job x.unit) q n) (subst (λ (x : Progress). J.starts l x.job x.unit ≡ false) q e)) r
 
   -- from one unit of a stretch to the next, the lock is the same
-  same-lock : (s h : ℕ) → h < v.n → S.runs s h ≡ true → progress J S (suc s) h ≡ record { job = (progress J S s h).job; unit = suc (progress J S s h).unit }
+  same_lock : (s h : ℕ) → h < v.n → S.runs s h ≡ true → progress J S (suc s) h ≡ record { job = (progress J S s h).job; unit = suc (progress J S s h).unit }
       → begins J S (suc s) h ≡ false → needs J S (suc s) h ≡ needs J S s h
-  same-lock s h m r q x =
+  same_lock s h m r q x =
       let a = progress J S s h in
-      let below : suc a.unit < J.cost h a.job = subst (λ (z : Progress). z.unit < J.cost h z.job) q (unit-below J S h (λ j. o.some h j m) (suc s)) in
+      let below : suc a.unit < J.cost h a.job = subst (λ (z : Progress). z.unit < J.cost h z.job) q (unit_below J S h (λ j. o.some h j m) (suc s)) in
       let nf : J.starts h a.job (suc a.unit) ≡ false = subst (λ (z : Progress). J.starts h z.job z.unit ≡ false) q x in
       ap (λ (z : Progress). J.lock h z.job z.unit) q ∙ o.same h a.job a.unit m below nf
 
@@ -47,7 +47,7 @@ module _ (v : View) (J : JobSet) (S : Schedule) (E : ℕ) (o : Generated v J) (p
     pub record Same (s h : ℕ) : Type 0 where
       pub task : h ≡ h₀
       pub job : (progress J S s h).job ≡ j₀
-      pub inside-it : at-stretch s h ≡ q₀
+      pub inside_it : at_stretch s h ≡ q₀
 
     pub record Still (s : ℕ) : Type 0 where
       pub asking : S.asked s i ≡ true
@@ -64,7 +64,7 @@ module _ (v : View) (J : JobSet) (S : Schedule) (E : ℕ) (o : Generated v J) (p
     unmoved : (s h : ℕ) → S.runs s h ≡ false → Same s h → Same (suc s) h
     unmoved s h r y =
         let q : progress J S (suc s) h ≡ progress J S s h = stay J S s h r in
-        record { task = y.task; job = ap (λ (z : Progress). z.job) q ∙ y.job; inside-it = ap (λ (z : Progress). stretch J h z.job z.unit) q ∙ y.inside-it }
+        record { task = y.task; job = ap (λ (z : Progress). z.job) q ∙ y.job; inside_it = ap (λ (z : Progress). stretch J h z.job z.unit) q ∙ y.inside_it }
 
     -- it went on within its stretch
     went_on : (s h : ℕ) → begins J S (suc s) h ≡ false → progress J S (suc s) h ≡ record { job = (progress J S s h).job; unit = suc (progress J S s h).unit } → Same s h → Same (suc s) h
@@ -73,7 +73,7 @@ module _ (v : View) (J : JobSet) (S : Schedule) (E : ℕ) (o : Generated v J) (p
         let a = progress J S s h in
         let nf : J.starts h a.job (suc a.unit) ≡ false = subst (λ (z : Progress). J.starts h z.job z.unit ≡ false) q x in
         let rq : stretch J h a.job (suc a.unit) ≡ stretch J h a.job a.unit = rw nf (omega arith) in
-        record { task = y.task; job = ap (λ (z : Progress). z.job) q ∙ y.job; inside-it = ap (λ (z : Progress). stretch J h z.job z.unit) q ∙ rq ∙ y.inside-it }
+        record { task = y.task; job = ap (λ (z : Progress). z.job) q ∙ y.job; inside_it = ap (λ (z : Progress). stretch J h z.job z.unit) q ∙ rq ∙ y.inside_it }
 
     -- who is lower, has the lock at the next instant and did not get it then, has had it
     had : (s h : ℕ) → suc s < E → h < v.n → i < h → Still s → S.runs s i ≡ false → waits_for J S (suc s) i h ≡ true → got_after J S s h ≡ false → Same (suc s) h
@@ -93,7 +93,7 @@ module _ (v : View) (J : JobSet) (S : Schedule) (E : ℕ) (o : Generated v J) (p
         go false r x = unmoved s h r (before (passes refl x) (ap (λ (z : Progress). J.lock h z.job z.unit) (stay J S s h r)))
         go true r x =
             moved J S s h r (Same (suc s) h)
-            (λ q. let lk = same-lock s h m r q x in
+            (λ q. let lk = same_lock s h m r q x in
             went_on s h x q (before (p.locks s h (omega arith) m r (subst (λ (z : ℕ). 0 < z) lk (p.holder_needs (suc s) h b m f.holding))) lk))
             (λ q. both (o.first h (suc (progress J S s h).job) m) (subst (λ (z : Progress). J.starts h z.job z.unit ≡ false) q x))
 
@@ -102,7 +102,7 @@ module _ (v : View) (J : JobSet) (S : Schedule) (E : ℕ) (o : Generated v J) (p
     gone s a c r = moved J S s i r (Stage (suc s)) (λ q. past (ap (λ (z : Progress). z.job) q ∙ a) (omega (arith, ap (λ (z : Progress). z.unit) q))) (λ q. later (omega (arith, ap (λ (z : Progress). z.job) q)))
 
     next : (s : ℕ) → suc s < E → Stage s → Stage (suc s)
-    next s b (later a) = later (omega (arith, job-rises J S i (λ j. o.some i j l) s (suc s) (omega arith)))
+    next s b (later a) = later (omega (arith, job_rises J S i (λ j. o.some i j l) s (suc s) (omega arith)))
     next s b (past a c) = go (S.runs s i) refl
       where
         go : (d : Bool) → S.runs s i ≡ d → Stage (suc s)

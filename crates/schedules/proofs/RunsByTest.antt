@@ -15,7 +15,7 @@ use Rattle.theory.specs.View.{View}
 use Rattle.schedules.specs.Jobs.{JobSet}
 use Rattle.schedules.specs.Schedule.{Schedule, pending, waits, KernelFact, runs_pending, runs_locked, conserves, one_holder, holds_pending, holds_lock, keeps, goes_on, asked_on, not_past, UnderPIP}
 use Rattle.schedules.specs.Wrong.{UnderPIPBut, OtherKernel, ahead_in, UnderOther}
-use Rattle.schedules.proofs.FactsByTest.{factTest, fact-by-test}
+use Rattle.schedules.proofs.FactsByTest.{fact_test, fact_by_test}
 
 abbrev kernel_facts : List KernelFact
 kernel_facts = runs_pending ∷ runs_locked ∷ conserves ∷ one_holder ∷ holds_pending ∷ holds_lock ∷ keeps ∷ goes_on ∷ asked_on ∷ not_past ∷ []
@@ -42,34 +42,34 @@ or_else false b e h = e
 
 module _ (v : View) (J : JobSet) (S : Schedule) (E : ℕ) where
   -- all facts
-  abbrev pub pipTest : Bool
-  pipTest = all_to E (λ s. all_to 10 (λ r. factTest v J S s (kernel_fact_at r)))
+  abbrev pub pip_test : Bool
+  pip_test = all_to E (λ s. all_to 10 (λ r. fact_test v J S s (kernel_fact_at r)))
 
-  pub pip-by-test : pipTest ≡ true → UnderPIP v J S E
-  pip-by-test e s h f =
+  pub pip_by_test : pip_test ≡ true → UnderPIP v J S E
+  pip_by_test e s h f =
       let n = fact_number f in
-      fact-by-test v J S s f (subst (λ (g : KernelFact). factTest v J S s g ≡ true) n.2 (all_at 10 n.0 (λ r. factTest v J S s (kernel_fact_at r)) (all_at E s _ e h) n.1))
+      fact_by_test v J S s f (subst (λ (g : KernelFact). fact_test v J S s g ≡ true) n.2 (all_at 10 n.0 (λ r. fact_test v J S s (kernel_fact_at r)) (all_at E s _ e h) n.1))
 
   -- all but one
-  abbrev pub butTest : KernelFact → Bool
-  butTest g = all_to E (λ s. all_to 10 (λ r. eqb r (fact_number g).0 || factTest v J S s (kernel_fact_at r)))
+  abbrev pub but_test : KernelFact → Bool
+  but_test g = all_to E (λ s. all_to 10 (λ r. eqb r (fact_number g).0 || fact_test v J S s (kernel_fact_at r)))
 
-  pub but-by-test : (g : KernelFact) → butTest g ≡ true → UnderPIPBut g v J S E
-  but-by-test g e s h f d =
+  pub but_by_test : (g : KernelFact) → but_test g ≡ true → UnderPIPBut g v J S E
+  but_by_test g e s h f d =
       let n = fact_number f in
       let m = fact_number g in
       -- where the fact is another, so is its number
       let apart : eqb n.0 m.0 ≡ false = ne_eqb n.0 m.0 (λ q. d (sym n.2 ∙ ap kernel_fact_at q ∙ m.2)) in
-      let each = all_at 10 n.0 (λ r. eqb r m.0 || factTest v J S s (kernel_fact_at r)) (all_at E s _ e h) n.1 in
-      fact-by-test v J S s f (subst (λ (g : KernelFact). factTest v J S s g ≡ true) n.2 (or_else _ _ each apart))
+      let each = all_at 10 n.0 (λ r. eqb r m.0 || fact_test v J S s (kernel_fact_at r)) (all_at E s _ e h) n.1 in
+      fact_by_test v J S s f (subst (λ (g : KernelFact). fact_test v J S s g ≡ true) n.2 (or_else _ _ each apart))
 
   -- all but `conserves`, and another in its place
-  abbrev pub otherTest : OtherKernel → Bool
-  otherTest o = all_to E (λ s. all_to v.n (λ l. pick (pending J S s l && (not (waits v J S s l) && not (S.runs s l))) (leb v.cpus (count_to v.n (ahead_in o v J S s l))) true))
+  abbrev pub other_test : OtherKernel → Bool
+  other_test o = all_to E (λ s. all_to v.n (λ l. pick (pending J S s l && (not (waits v J S s l) && not (S.runs s l))) (leb v.cpus (count_to v.n (ahead_in o v J S s l))) true))
 
-  pub other-by-test : (o : OtherKernel) → butTest conserves ≡ true → otherTest o ≡ true → UnderOther o v J S E
-  other-by-test o e f =
+  pub other_by_test : (o : OtherKernel) → but_test conserves ≡ true → other_test o ≡ true → UnderOther o v J S E
+  other_by_test o e f =
       record {
-        others = but-by-test conserves e;
+        others = but_by_test conserves e;
         conserved = λ s l h k p w r. leb-true _ _ (pick_is _ _ (all_at v.n l _ (all_at E s _ f h) k) (and_both _ _ p (and_both _ _ (ap not w) (ap not r))));
       }

@@ -24,10 +24,10 @@ use Rattle.schedules.specs.Schedule.{KernelFact, FactAt, onward, progress, prior
 use Rattle.schedules.specs.Schedule.KernelFact.{runs_pending, runs_locked, conserves, one_holder, holds_pending, holds_lock, keeps, goes_on, asked_on, not_past}
 use Rattle.schedules.specs.Picture.{jobs_of, run_of}
 use Rattle.schedules.specs.Shown.{shown_table, shown_bounds, shown_picture, shown_jobs, shown_run, Shown}
-use Rattle.schedules.proofs.FactsByTest.{factTest, fact-by-test}
-use Rattle.schedules.proofs.GeneratedByTest.{generatedRules, generated-by-test}
+use Rattle.schedules.proofs.FactsByTest.{fact_test, fact_by_test}
+use Rattle.schedules.proofs.GeneratedByTest.{generated_rules, generated_by_test}
 use Rattle.schedules.proofs.LeastByTest.{least_test, least_by_test}
-use Rattle.schedules.proofs.RepeatLaws.{cycle-after-cycle, runs-again, repeats}
+use Rattle.schedules.proofs.RepeatLaws.{cycle_after_cycle, runs_again, repeats}
 
 abbrev shown_view : View
 shown_view = view_of shown_table
@@ -44,11 +44,11 @@ bounded : (i : ℕ) → i < 4 → Least (demand_of shown_view (level i)) (shown_
 bounded i h = least_by_test _ _ _ (all_at 4 i _ bounded_test h)
 
 generated : Generated shown_view shown_jobs
-unfolding shown_table generatedRules jobs_of sum_to all_to
-generated = generated-by-test shown_view shown_picture refl
+unfolding shown_table generated_rules jobs_of sum_to all_to
+generated = generated_by_test shown_view shown_picture refl
 
-facts_test : (f : KernelFact) → all_to 21 (λ s. factTest shown_view shown_jobs shown_run s f) ≡ true
-unfolding shown_table sum_to all_to first_to jobs_of run_of onward progress priority got_after factTest
+facts_test : (f : KernelFact) → all_to 21 (λ s. fact_test shown_view shown_jobs shown_run s f) ≡ true
+unfolding shown_table sum_to all_to first_to jobs_of run_of onward progress priority got_after fact_test
 facts_test runs_pending = refl
 facts_test runs_locked = refl
 facts_test conserves = refl
@@ -61,7 +61,7 @@ facts_test asked_on = refl
 facts_test not_past = refl
 
 first_cycle : (s : ℕ) → s ≤ 20 → (f : KernelFact) → FactAt shown_view shown_jobs shown_run s f
-first_cycle s h f = fact-by-test shown_view shown_jobs shown_run s f (all_at 21 s _ (facts_test f) (omega arith))
+first_cycle s h f = fact_by_test shown_view shown_jobs shown_run s f (all_at 21 s _ (facts_test f) (omega arith))
 
 finished : (l : ℕ) → l < shown_view.n → progress shown_jobs shown_run 20 l ≡ record { job = 1; unit = 0 }
 unfolding shown_table jobs_of run_of onward progress
@@ -85,9 +85,9 @@ places_test = refl
 
 places : (s : ℕ) → count_to 4 (shown_run.runs s) ≤ 2
 places =
-    cycle-after-cycle (λ (s : ℕ). count_to 4 (shown_run.runs s) ≤ 2) 20 (lit< tt)
+    cycle_after_cycle (λ (s : ℕ). count_to 4 (shown_run.runs s) ≤ 2) 20 (lit< tt)
     (λ s h. leb-true _ _ (all_at 21 s _ places_test (omega arith)))
-    (λ q h. rw (sum_eq 4 (λ l. only (shown_run.runs (20 + suc q) l) 1) (λ l. only (shown_run.runs (suc q) l) 1) (λ l _. rw (runs-again shown_picture (lit< tt) (suc q) l))) h)
+    (λ q h. rw (sum_eq 4 (λ l. only (shown_run.runs (20 + suc q) l) 1) (λ l. only (shown_run.runs (suc q) l) 1) (λ l _. rw (runs_again shown_picture (lit< tt) (suc q) l))) h)
 
 pub shown_holds : Shown
 unfolding shown_table sum_to first_to jobs_of run_of onward progress priority

@@ -20,10 +20,10 @@ use Rattle.schedules.specs.Jobs.{JobSet, Generated}
 use Rattle.schedules.specs.Schedule.{Schedule, progress, Finished}
 use Rattle.schedules.specs.Theorem.{Constrained}
 use Rattle.schedules.proofs.FactLaws.{Obeys}
-use Rattle.schedules.proofs.ProgressLaws.{unit-below}
+use Rattle.schedules.proofs.ProgressLaws.{unit_below}
 use Rattle.schedules.proofs.LoadLaws.{works, load}
 use Rattle.schedules.proofs.TallyLaws.{only_sum}
-use Rattle.schedules.proofs.UnitLaws.{highLock, budget, asS, asO, asF, within-run, asS-most, asO-most, asF-most, high-most}
+use Rattle.schedules.proofs.UnitLaws.{high_lock, budget, as_S, as_O, as_F, within_run, as_S_most, as_O_most, as_F_most, high_most}
 
 keep : (b : Bool) {x y : ℕ} → (b ≡ true → x ≤ y) → only b x ≤ only b y
 keep true h = h refl
@@ -52,7 +52,7 @@ module _ (v : View) (J : JobSet) (S : Schedule) (E : ℕ) (fit : Constrained v) 
       none : (s : ℕ) (b : Bool) → works J S h P s ≡ b → b ≡ false
       none s true e =
           let j = (progress J S s h).job in
-          let c = some_count (J.cost h j) (progress J S s h).unit (P j) (unit-below J S h (λ j. o.some h j l) s) (and_true (S.runs s h) _ e).1 in
+          let c = some_count (J.cost h j) (progress J S s h).unit (P j) (unit_below J S h (λ j. o.some h j l) s) (and_true (S.runs s h) _ e).1 in
           absurd (omega (arith, most j))
       none s false e = refl
   counted A t h (suc x) P end met l hx most =
@@ -63,28 +63,28 @@ module _ (v : View) (J : JobSet) (S : Schedule) (E : ℕ) (fit : Constrained v) 
   abbrev pub Met : ℕ → Type 0
   Met B = (h : ℕ) → h < v.n → 1 ≤ units_read v (level i) (level h) → MetBefore B h
 
-  pub S-most : (A t : ℕ) → A + t ≤ E → Met (A + t)
-      → sum_to t (λ s. sum_to v.n (λ h. only (is_above (level h) (level i)) (only (works J S h (asS v J fit o i h) (A + s)) 1))) ≤ STerm workload v (level i) t
+  pub S_most : (A t : ℕ) → A + t ≤ E → Met (A + t)
+      → sum_to t (λ s. sum_to v.n (λ h. only (is_above (level h) (level i)) (only (works J S h (as_S v J fit o i h) (A + s)) 1))) ≤ STerm workload v (level i) t
   unfolding STerm shared_CT units_read
-  S-most A t end met = term t v.n A (λ h. is_above (level h) (level i)) (λ h. works J S h (asS v J fit o i h)) _
-      (λ h l a. counted A t h (shared_CT v (level i) (level h)) (asS v J fit o i h) end (λ x. met h l (rw a (omega arith))) l (within-run v J fit o i h l (λ k. uses v (level i) (resource k))) (λ j. asS-most v J fit o i h l j))
+  S_most A t end met = term t v.n A (λ h. is_above (level h) (level i)) (λ h. works J S h (as_S v J fit o i h)) _
+      (λ h l a. counted A t h (shared_CT v (level i) (level h)) (as_S v J fit o i h) end (λ x. met h l (rw a (omega arith))) l (within_run v J fit o i h l (λ k. uses v (level i) (resource k))) (λ j. as_S_most v J fit o i h l j))
 
   -- the others count for i > m alone
   module _ (long : leb (suc i) v.cpus ≡ false) where
-    pub O-most : (A t : ℕ) → A + t ≤ E → Met (A + t)
-        → sum_to t (λ s. sum_to v.n (λ h. only (is_above (level h) (level i)) (only (works J S h (asO v J fit o i h) (A + s)) 1))) ≤ OTerm workload v (level i) t
+    pub O_most : (A t : ℕ) → A + t ≤ E → Met (A + t)
+        → sum_to t (λ s. sum_to v.n (λ h. only (is_above (level h) (level i)) (only (works J S h (as_O v J fit o i h) (A + s)) 1))) ≤ OTerm workload v (level i) t
     unfolding OTerm other_CT units_read
-    O-most A t end met = term t v.n A (λ h. is_above (level h) (level i)) (λ h. works J S h (asO v J fit o i h)) _
-        (λ h l a. counted A t h (other_CT v (level i) (level h)) (asO v J fit o i h) end (λ x. met h l (rw (a, long) (omega arith))) l (within-run v J fit o i h l (λ k. not (uses v (level i) (resource k)))) (λ j. asO-most v J fit o i h l j))
+    O_most A t end met = term t v.n A (λ h. is_above (level h) (level i)) (λ h. works J S h (as_O v J fit o i h)) _
+        (λ h l a. counted A t h (other_CT v (level i) (level h)) (as_O v J fit o i h) end (λ x. met h l (rw (a, long) (omega arith))) l (within_run v J fit o i h l (λ k. not (uses v (level i) (resource k)))) (λ j. as_O_most v J fit o i h l j))
 
-    pub F-most : (A t : ℕ) → A + t ≤ E → Met (A + t)
-        → sum_to t (λ s. sum_to v.n (λ h. only (is_above (level h) (level i)) (only (works J S h (asF v J fit o i h) (A + s)) 1))) ≤ FTerm workload v (level i) t
+    pub F_most : (A t : ℕ) → A + t ≤ E → Met (A + t)
+        → sum_to t (λ s. sum_to v.n (λ h. only (is_above (level h) (level i)) (only (works J S h (as_F v J fit o i h) (A + s)) 1))) ≤ FTerm workload v (level i) t
     unfolding FTerm units_read
-    F-most A t end met = term t v.n A (λ h. is_above (level h) (level i)) (λ h. works J S h (asF v J fit o i h)) _
-        (λ h l a. counted A t h (budget v J fit o i h) (asF v J fit o i h) end (λ x. met h l (rw (a, long) (omega arith))) l (omega arith) (λ j. asF-most v J fit o i h l j))
+    F_most A t end met = term t v.n A (λ h. is_above (level h) (level i)) (λ h. works J S h (as_F v J fit o i h)) _
+        (λ h l a. counted A t h (budget v J fit o i h) (as_F v J fit o i h) end (λ x. met h l (rw (a, long) (omega arith))) l (omega arith) (λ j. as_F_most v J fit o i h l j))
 
-    pub L-most : (A t : ℕ) → A + t ≤ E → Met (A + t)
-        → sum_to t (λ s. sum_to v.n (λ h. only (is_above (level i) (level h)) (only (works J S h (highLock v J fit o i h) (A + s)) 1))) ≤ LTerm workload v (level i) t
+    pub L_most : (A t : ℕ) → A + t ≤ E → Met (A + t)
+        → sum_to t (λ s. sum_to v.n (λ h. only (is_above (level i) (level h)) (only (works J S h (high_lock v J fit o i h) (A + s)) 1))) ≤ LTerm workload v (level i) t
     unfolding LTerm high_CT units_read
-    L-most A t end met = term t v.n A (λ h. is_above (level i) (level h)) (λ h. works J S h (highLock v J fit o i h)) _
-        (λ h l a. counted A t h (high_CT v (level i) (level h)) (highLock v J fit o i h) end (λ x. met h l (rw (a, long) (omega arith))) l (within-run v J fit o i h l (λ k. is_above (ceiling v (resource k)) (level i))) (λ j. high-most v J fit o i h l j))
+    L_most A t end met = term t v.n A (λ h. is_above (level i) (level h)) (λ h. works J S h (high_lock v J fit o i h)) _
+        (λ h l a. counted A t h (high_CT v (level i) (level h)) (high_lock v J fit o i h) end (λ x. met h l (rw (a, long) (omega arith))) l (within_run v J fit o i h l (λ k. is_above (ceiling v (resource k)) (level i))) (λ j. high_most v J fit o i h l j))

@@ -21,70 +21,70 @@ use Rattle.schedules.proofs.TallyLaws.{among, count_among, rank_low, rank_mid, r
 
 module _ (v : View) (J : JobSet) (fit : Constrained v) (o : Generated v J) (i : ℕ) where
   -- at a lock that i uses; that it does not use; whose ceiling is above i; and outside all locks
-  abbrev pub ownLock : ℕ → ℕ → ℕ → Bool
-  ownLock h j u = among (λ k. uses v (level i) (resource k)) (J.lock h j u)
+  abbrev pub own_lock : ℕ → ℕ → ℕ → Bool
+  own_lock h j u = among (λ k. uses v (level i) (resource k)) (J.lock h j u)
 
-  abbrev pub otherLock : ℕ → ℕ → ℕ → Bool
-  otherLock h j u = among (λ k. not (uses v (level i) (resource k))) (J.lock h j u)
+  abbrev pub other_lock : ℕ → ℕ → ℕ → Bool
+  other_lock h j u = among (λ k. not (uses v (level i) (resource k))) (J.lock h j u)
 
-  abbrev pub highLock : ℕ → ℕ → ℕ → Bool
-  highLock h j u = among (λ k. is_above (ceiling v (resource k)) (level i)) (J.lock h j u)
+  abbrev pub high_lock : ℕ → ℕ → ℕ → Bool
+  high_lock h j u = among (λ k. is_above (ceiling v (resource k)) (level i)) (J.lock h j u)
 
-  abbrev pub noLock : ℕ → ℕ → ℕ → Bool
-  noLock h j u = eqb (J.lock h j u) 0
+  abbrev pub no_lock : ℕ → ℕ → ℕ → Bool
+  no_lock h j u = eqb (J.lock h j u) 0
 
   -- of the units without a lock, how many came before; F takes the first so many; O as many more as its time at other locks leaves; S the rest
   abbrev pub before : ℕ → ℕ → ℕ → ℕ
-  before h j u = count_to u (noLock h j)
+  before h j u = count_to u (no_lock h j)
 
   abbrev pub budget : ℕ → ℕ
   budget h = v.C (level h) - all_CT v (level h)
 
   abbrev pub cut : ℕ → ℕ → ℕ
-  cut h j = budget h + (other_CT v (level i) (level h) - count_to (J.cost h j) (otherLock h j))
+  cut h j = budget h + (other_CT v (level i) (level h) - count_to (J.cost h j) (other_lock h j))
 
-  abbrev pub asS : ℕ → ℕ → ℕ → Bool
-  asS h j u = ownLock h j u || (noLock h j u && leb (cut h j) (before h j u))
+  abbrev pub as_S : ℕ → ℕ → ℕ → Bool
+  as_S h j u = own_lock h j u || (no_lock h j u && leb (cut h j) (before h j u))
 
-  abbrev pub asO : ℕ → ℕ → ℕ → Bool
-  asO h j u = otherLock h j u || (noLock h j u && (leb (budget h) (before h j u) && ltb (before h j u) (cut h j)))
+  abbrev pub as_O : ℕ → ℕ → ℕ → Bool
+  as_O h j u = other_lock h j u || (no_lock h j u && (leb (budget h) (before h j u) && ltb (before h j u) (cut h j)))
 
-  abbrev pub asF : ℕ → ℕ → ℕ → Bool
-  asF h j u = noLock h j u && ltb (before h j u) (budget h)
+  abbrev pub as_F : ℕ → ℕ → ℕ → Bool
+  as_F h j u = no_lock h j u && ltb (before h j u) (budget h)
 
   locked : (h : ℕ) → h < v.n → (w : ℕ → Bool) (j : ℕ)
       → count_to (J.cost h j) (λ u. among w (J.lock h j u)) ≤ sum_to max_resources (λ k. only (w k) (v.CT (level h) (resource k)))
   locked h l w j = count_among (J.cost h j) max_resources w (J.lock h j) (λ k. v.CT (level h) (resource k)) (λ u m. o.known h j u l m) (λ k m. o.total h j k l m)
 
   -- no part of the lock times is above C
-  pub within-run : (h : ℕ) → h < v.n → (w : ℕ → Bool) → sum_to max_resources (λ k. only (w k) (v.CT (level h) (resource k))) ≤ v.C (level h)
+  pub within_run : (h : ℕ) → h < v.n → (w : ℕ → Bool) → sum_to max_resources (λ k. only (w k) (v.CT (level h) (resource k))) ≤ v.C (level h)
   unfolding all_CT
-  within-run h l w =
+  within_run h l w =
       le_trans (sum_le max_resources (λ k. only (w k) (v.CT (level h) (resource k))) (λ k. v.CT (level h) (resource k)) (λ k m. only_below (w k) _))
       (fit.totals h l)
 
   -- of each job at most the units that its term has
-  pub asS-most : (h : ℕ) → h < v.n → (j : ℕ) → count_to (J.cost h j) (asS h j) ≤ shared_CT v (level i) (level h)
+  pub as_S_most : (h : ℕ) → h < v.n → (j : ℕ) → count_to (J.cost h j) (as_S h j) ≤ shared_CT v (level i) (level h)
   unfolding shared_CT other_CT
-  asS-most h l j =
-      let a = count_or (J.cost h j) (ownLock h j) (λ u. noLock h j u && leb (cut h j) (before h j u)) in
-      let b = rank_high (J.cost h j) (cut h j) (noLock h j) in
+  as_S_most h l j =
+      let a = count_or (J.cost h j) (own_lock h j) (λ u. no_lock h j u && leb (cut h j) (before h j u)) in
+      let b = rank_high (J.cost h j) (cut h j) (no_lock h j) in
       let c = locked h l (λ k. not (uses v (level i) (resource k))) j in
       let d = locked h l (λ k. uses v (level i) (resource k)) j in
       let e = count_parts (J.cost h j) (λ k. uses v (level i) (resource k)) (J.lock h j) in
       omega (arith, o.run h j l, split_all v (level i) (level h), fit.totals h l)
 
-  pub asO-most : (h : ℕ) → h < v.n → (j : ℕ) → count_to (J.cost h j) (asO h j) ≤ other_CT v (level i) (level h)
+  pub as_O_most : (h : ℕ) → h < v.n → (j : ℕ) → count_to (J.cost h j) (as_O h j) ≤ other_CT v (level i) (level h)
   unfolding other_CT
-  asO-most h l j =
-      let a = count_or (J.cost h j) (otherLock h j) (λ u. noLock h j u && (leb (budget h) (before h j u) && ltb (before h j u) (cut h j))) in
-      let b = rank_mid (J.cost h j) (budget h) (cut h j) (noLock h j) in
+  as_O_most h l j =
+      let a = count_or (J.cost h j) (other_lock h j) (λ u. no_lock h j u && (leb (budget h) (before h j u) && ltb (before h j u) (cut h j))) in
+      let b = rank_mid (J.cost h j) (budget h) (cut h j) (no_lock h j) in
       let c = locked h l (λ k. not (uses v (level i) (resource k))) j in
       omega arith
 
-  pub asF-most : (h : ℕ) → h < v.n → (j : ℕ) → count_to (J.cost h j) (asF h j) ≤ budget h
-  asF-most h l j = omega (arith, rank_low (J.cost h j) (budget h) (noLock h j))
+  pub as_F_most : (h : ℕ) → h < v.n → (j : ℕ) → count_to (J.cost h j) (as_F h j) ≤ budget h
+  as_F_most h l j = omega (arith, rank_low (J.cost h j) (budget h) (no_lock h j))
 
-  pub high-most : (h : ℕ) → h < v.n → (j : ℕ) → count_to (J.cost h j) (highLock h j) ≤ high_CT v (level i) (level h)
+  pub high_most : (h : ℕ) → h < v.n → (j : ℕ) → count_to (J.cost h j) (high_lock h j) ≤ high_CT v (level i) (level h)
   unfolding high_CT
-  high-most h l j = locked h l (λ k. is_above (ceiling v (resource k)) (level i)) j
+  high_most h l j = locked h l (λ k. is_above (ceiling v (resource k)) (level i)) j

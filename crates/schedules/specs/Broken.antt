@@ -114,33 +114,33 @@ other_run no_inheritance =
     ∷ [])
 
 module _ (b : LateRun) where
-  abbrev pub pictureOf : Picture
-  pictureOf =
+  abbrev pub picture_of : Picture
+  picture_of =
       record { first = map (λ t. t.first) b.tasks; gaps = map (λ t. 20) b.tasks; cycle = 20; units = map (λ t. t.units) b.tasks; doing = map (λ t. t.doing) b.tasks }
 
-  abbrev pub lengthsOf : ℕ → ℕ
-  lengthsOf i = get_or (map (λ t. t.covering) b.tasks) i 0
+  abbrev pub lengths_of : ℕ → ℕ
+  lengths_of i = get_or (map (λ t. t.covering) b.tasks) i 0
 
   -- how many units a task's job has, how many with the lock, of which there is one, and how many requests
-  abbrev runOfTask : ℕ → ℕ
-  runOfTask l = (jobs_of pictureOf).cost l 0
+  abbrev run_of_task : ℕ → ℕ
+  run_of_task l = (jobs_of picture_of).cost l 0
 
-  abbrev lockedOfTask : ℕ → ℕ
-  lockedOfTask l = count_to (runOfTask l) (in_lock (jobs_of pictureOf) l 0 0)
+  abbrev locked_of_task : ℕ → ℕ
+  locked_of_task l = count_to (run_of_task l) (in_lock (jobs_of picture_of) l 0 0)
 
-  abbrev requestsOfTask : ℕ → ℕ
-  requestsOfTask l = count_to (runOfTask l) (λ u. in_lock (jobs_of pictureOf) l 0 0 u && (jobs_of pictureOf).starts l 0 u)
+  abbrev requests_of_task : ℕ → ℕ
+  requests_of_task l = count_to (run_of_task l) (λ u. in_lock (jobs_of picture_of) l 0 0 u && (jobs_of picture_of).starts l 0 u)
 
   -- a table with figures for these jobs, T 20 and D 10 for all, and c as large as CT
-  abbrev pub systemOf : View
-  systemOf =
+  abbrev pub system_of : View
+  system_of =
       record {
         cpus = b.cpus;
         n = length b.tasks;
         T = λ l. 20;
-        C = λ l. runOfTask (pred l.0);
+        C = λ l. run_of_task (pred l.0);
         D = λ l. 10;
-        N = λ l k. only (eqb k.0 1) (requestsOfTask (pred l.0));
-        c = λ l k. only (eqb k.0 1) (lockedOfTask (pred l.0));
-        CT = λ l k. only (eqb k.0 1) (lockedOfTask (pred l.0));
+        N = λ l k. only (eqb k.0 1) (requests_of_task (pred l.0));
+        c = λ l k. only (eqb k.0 1) (locked_of_task (pred l.0));
+        CT = λ l k. only (eqb k.0 1) (locked_of_task (pred l.0));
       }

@@ -50,15 +50,15 @@ pub ceilings_none : (t : Table) (i : ℕ) → i < max_tasks → CeilingsTo t i 0
 ceilings_none t i h k q = rw (get_or-replicate max_resources k (level max_tasks) _ q, le-ltb (level max_tasks).0 (level i).0 (omega arith), ← sum_none)
 
 module _ (t : Table) (i : ℕ) (c r : Ceilings) where
-  pub ceilings-more : (l : ℕ) → l < i → CeilingsTo t i l c → CeilingsWith c (task_at t l) (record { 0 = l + 1 }) r → CeilingsTo t i (l + 1) r
-  ceilings-more l h is w k q =
+  pub ceilings_more : (l : ℕ) → l < i → CeilingsTo t i l c → CeilingsWith c (task_at t l) (record { 0 = l + 1 }) r → CeilingsTo t i (l + 1) r
+  ceilings_more l h is w k q =
       ap (λ (e : Level). is_above e (level i)) (w.each k q)
       ∙ with_above (ceiling_at c k) (record { 0 = l + 1 }) (level i) ((view_of t).N (level l) (resource k)) _ (omega arith) (is k q)
       ∙ sym (ap (ltb 0) (sum_more l (λ j. (view_of t).N (level j) (resource k))))
 
-  pub ceilings-all : (m : Marks) → i ≤ t.n → CeilingsTo t i i c → CeilingsWith c (task_at t i) (record { 0 = i + 1 }) r
+  pub ceilings_all : (m : Marks) → i ≤ t.n → CeilingsTo t i i c → CeilingsWith c (task_at t i) (record { 0 = i + 1 }) r
       → HighIn r (record { 0 = i + 1 }) m → AboveIs t i m
-  ceilings-all m h is w g k q =
+  ceilings_all m h is w g k q =
       g.each k q
       ∙ ap (λ (e : Level). is_above e (record { 0 = i + 1 })) (w.each k q)
       ∙ with_own (ceiling_at c k) (record { 0 = i + 1 }) ((view_of t).N (level i) (resource k))

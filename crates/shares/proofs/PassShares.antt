@@ -44,44 +44,44 @@ module _ (t : Table) (i l : ℕ) where
   abbrev v : View
   v = view_of t
 
-  shared-is : (m : Marks) → UsedBy (task_at t i) m → marked_sum m (task_at t l) ≡ shared_CT v (level i) (level l)
+  shared_is : (m : Marks) → UsedBy (task_at t i) m → marked_sum m (task_at t l) ≡ shared_CT v (level i) (level l)
   unfolding shared_CT
-  shared-is m is = sum_eq max_resources _ _ (λ k h. ap (λ (b : Bool). only b (v.CT (level l) (resource k))) (is.each k h))
+  shared_is m is = sum_eq max_resources _ _ (λ k h. ap (λ (b : Bool). only b (v.CT (level l) (resource k))) (is.each k h))
 
   high_is : (m : Marks) → AboveIs t i m → marked_sum m (task_at t l) ≡ high_CT v (level i) (level l)
   unfolding high_CT
   high_is m is = sum_eq max_resources _ _ (λ k h. ap (λ (b : Bool). only b (v.CT (level l) (resource k))) (is k h))
 
-  all-is : total_sum (task_at t l) ≡ all_CT v (level l)
+  all_is : total_sum (task_at t l) ≡ all_CT v (level l)
   unfolding all_CT
-  all-is = refl
+  all_is = refl
 
-  short-is : leb (level i).0 t.cpus ≡ short t i
-  short-is = rw add-one
+  short_is : leb (level i).0 t.cpus ≡ short t i
+  short_is = rw add-one
 
   upper_is : (m : Marks) (e : Share) → l < i → UsedBy (task_at t i) m → UpperIs m (task_at t l) (short t i) e → ShareIs v (level i) (level l) e
   upper_is m e h is u =
-      let s = shared-is m is in
+      let s = shared_is m is in
       let on = lt-ltb (level l).0 (level i).0 (omega arith) in
       let other : total_sum (task_at t l) - marked_sum m (task_at t l) ≡ other_CT v (level i) (level l) =
-      omega (arith, s, all-is, split_all v (level i) (level l)) in
+      omega (arith, s, all_is, split_all v (level i) (level l)) in
       record {
         period = u.period;
         deadline = u.deadline;
         whole = rw on (u.whole ∙ s);
-        one = rw (on, short-is) (u.one ∙ ap (pick (short t i) 0) other);
-        two = rw (on, short-is) (u.two ∙ ap (λ (n : ℕ). pick (short t i) 0 (v.C (level l) - n)) all-is);
+        one = rw (on, short_is) (u.one ∙ ap (pick (short t i) 0) other);
+        two = rw (on, short_is) (u.two ∙ ap (λ (n : ℕ). pick (short t i) 0 (v.C (level l) - n)) all_is);
       }
 
-  lower-is : (m : Marks) (e : Share) → i < l → AboveIs t i m → LowerIs m (task_at t l) (short t i) e → ShareIs v (level i) (level l) e
-  lower-is m e h is u =
+  lower_is : (m : Marks) (e : Share) → i < l → AboveIs t i m → LowerIs m (task_at t l) (short t i) e → ShareIs v (level i) (level l) e
+  lower_is m e h is u =
       let off = le-ltb (level l).0 (level i).0 (omega arith) in
       let on = lt-ltb (level i).0 (level l).0 (omega arith) in
       record {
         period = u.period;
         deadline = u.deadline;
         whole = rw off u.whole;
-        one = rw (off, on, short-is) (u.one ∙ ap (pick (short t i) 0) (high_is m is));
+        one = rw (off, on, short_is) (u.one ∙ ap (pick (short t i) 0) (high_is m is));
         two = rw (off, pick_zero) u.two;
       }
 
@@ -99,11 +99,11 @@ own_is t i m e u =
 
 -- the row of both passes, with the task's own share between them
 module _ (t : Table) (i : ℕ) (mine above : Marks) (up : Above) (e : Share) (down : Below) (few : t.n ≤ max_tasks) (there : i < t.n) (m : UsedBy (task_at t i) mine) (a : AboveIs t i above) (u : SharesAbove t i mine (short t i) up) (o : LowerIs above (task_at t i) true e) (d : SharesBelow t i above (short t i) (set up.of i e) down) where
-  shares-are : (l : ℕ) → l < t.n → ShareIs (view_of t) (level i) (level l) (share_in down.of l)
-  shares-are l q = side (dec_lt i l) (ℕ_discrete l i)
+  shares_are : (l : ℕ) → l < t.n → ShareIs (view_of t) (level i) (level l) (share_in down.of l)
+  shares_are l q = side (dec_lt i l) (ℕ_discrete l i)
     where
       side : Dec (i < l) → Dec (l ≡ i) → ShareIs (view_of t) (level i) (level l) (share_in down.of l)
-      side (yes b) p = lower-is t i l above _ b a (d.each l b q)
+      side (yes b) p = lower_is t i l above _ b a (d.each l b q)
       side (no b) (yes p) = rw (p, d.kept i (le_refl i), get_or-set_same up.of i e no_share (omega (arith, u.long))) (own_is t i above e o)
       side (no b) (no p) =
           rw (d.kept l (omega arith), get_or-set_other up.of i l e no_share p) (upper_is t i l mine _ (omega arith) m (u.each l (omega arith)))
@@ -112,6 +112,6 @@ module _ (t : Table) (i : ℕ) (mine above : Marks) (up : Above) (e : Share) (do
   row_made = row_is max_tasks _ no_share down.of d.long (λ l h. slot l h (dec_lt l t.n))
     where
       slot : (l : ℕ) → l < max_tasks → Dec (l < t.n) → share_in down.of l ≡ pick (ltb l t.n) (share_of (view_of t) (level i) (level l)) no_share
-      slot l h (yes q) = rw (lt-ltb l t.n q) (share_eq (shares-are l q))
+      slot l h (yes q) = rw (lt-ltb l t.n q) (share_eq (shares_are l q))
       slot l h (no q) =
           rw (le-ltb l t.n (omega arith)) (d.rest l (omega arith) ∙ get_or-set_other up.of i l e no_share (λ p. omega arith) ∙ u.rest l (omega arith) h)

@@ -43,21 +43,21 @@ wait_is t i m is =
 -- ---- of a table in bounds DB is no more than it may be: its task asks for its locks so often, for all of them together, and waits for each no longer than the longest time
 
 module _ (t : Table) (i : ℕ) (a : InBounds t) (h : i < t.n) where
-  longest-time : (k : ℕ) → k < max_resources → largest_below (view_of t) (level i) (λ l. (view_of t).c l (resource k)) ≤ max_time
-  longest-time k q =
+  longest_time : (k : ℕ) → k < max_resources → largest_below (view_of t) (level i) (λ l. (view_of t).c l (resource k)) ≤ max_time
+  longest_time k q =
       max_bound t.n max_time _
       (λ l p. omega (arith, only_below (is_above (level i) (level l)) (pair_at t l k).longest, (a.task l p).longest k q))
 
-  pub wait-most : DB (view_of t) (level i) ≤ max_wait
+  pub wait_most : DB (view_of t) (level i) ≤ max_wait
   unfolding DB
-  wait-most =
+  wait_most =
       let N : ℕ → ℕ = λ k. (pair_at t i k).requests in
       omega (
         arith,
         sum_le max_resources
             (λ k. only (uses (view_of t) (level i) (resource k)) (N k * largest_below (view_of t) (level i) (λ l. (view_of t).c l (resource k))))
             (λ k. max_time * N k)
-            (λ k q. le_trans (only_below (uses (view_of t) (level i) (resource k)) _) (le_trans (mul-le-mul (le_refl (N k)) (longest-time k q)) (omega arith))),
+            (λ k q. le_trans (only_below (uses (view_of t) (level i) (resource k)) _) (le_trans (mul-le-mul (le_refl (N k)) (longest_time k q)) (omega arith))),
         sum_scale max_resources max_time N,
         (a.task i h).requests,
       )

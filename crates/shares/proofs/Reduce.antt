@@ -53,9 +53,9 @@ module _ (v : View) (i : Level) (t : ℕ) where
       + only (is_above l i) (load_of workload v t l (v.C l - all_CT v l))
       + only (is_above i l) (load_of workload v t l (high_CT v i l))
 
-  terms-are : sum_to v.n (λ l. terms (level l)) ≡ O workload v i t + F workload v i t + L workload v i t
+  terms_are : sum_to v.n (λ l. terms (level l)) ≡ O workload v i t + F workload v i t + L workload v i t
   unfolding O F L terms
-  terms-are = sym (ap (λ (x : ℕ). x + L workload v i t) (sum_add v.n _ _) ∙ sum_add v.n _ _)
+  terms_are = sym (ap (λ (x : ℕ). x + L workload v i t) (sum_add v.n _ _) ∙ sum_add v.n _ _)
 
   term_is : (b : Bool) (l : Level)
       → load_of workload v t l (pick b 0 (pick (is_above l i) (other_CT v i l) (only (is_above i l) (high_CT v i l))))
@@ -83,7 +83,7 @@ module _ (v : View) (i : Level) (s : Shares) (r : SharesAre v i s) (t : ℕ) whe
       (sum_eq v.n _ _
       (λ l h. let e = r.each l h in rw (e.period, e.deadline, e.one, e.two) (term_is v i t (leb i.0 v.cpus) (level l)))
       ∙ sum_pick (leb i.0 v.cpus) v.n (λ l. terms v i t (level l))
-      ∙ ap (pick (leb i.0 v.cpus) 0) (terms-are v i t))
+      ∙ ap (pick (leb i.0 v.cpus) 0) (terms_are v i t))
 
 pub shares_demand_lem : (v : View) (i : ℕ) (s : Shares) → SharesAre v (level i) s → (t : ℕ) → shares_demand s t ≡ demand_of v (level i) t
 unfolding shares_demand demand_with

@@ -1,5 +1,7 @@
 // Cutting a table down to what the analysis of one task reads, in a pass over the tasks above it and one over those below. No function that a loop
 // calls takes the table. The resources of a task are gone through by slot, resource k at k - 1.
+#![tactic(auto)]
+
 ghost use Rattle.std.specs.Prelude.{◌≡◌, ◌-◌, ◌*◌, ◌^◌, ◌≤◌, ◌<◌, max, min};
 ghost use Rattle.basics.specs.Choice.{pick};
 ghost use Rattle.table.specs.Limits.{max_tasks};
@@ -18,39 +20,39 @@ fn is_above(a: Level, b: Level) -> bool
 }
 
 // Some of the resources.
-#[derive(Drop)]
+#[derive(Clone, Copy)]
 struct Marks {
     on: [bool; Table::MAX_RESOURCES],
 }
 
 // The ceiling of each resource, as far as it is known.
-#[derive(Drop)]
+#[derive(Clone, Copy)]
 struct Ceilings {
     of: [Level; Table::MAX_RESOURCES],
 }
 
 // The longest single request for each resource.
-#[derive(Drop)]
+#[derive(Clone, Copy)]
 struct Peaks {
     longest: [u32; Table::MAX_RESOURCES],
 }
 
 // The CT of a task for the resources marked, and for all.
-#[derive(Drop)]
+#[derive(Clone, Copy)]
 struct Totals {
     marked: u64,
     all: u64,
 }
 
 // What is known once the tasks above i are passed: their shares, in front, and the ceilings that they bring.
-#[derive(Drop)]
+#[derive(Clone, Copy)]
 struct Above {
     of: [Share; Table::MAX_TASKS],
     ceilings: Ceilings,
 }
 
 // What is known once those below i are passed too: every share, and the longest requests below i.
-#[derive(Drop)]
+#[derive(Clone, Copy)]
 struct Below {
     of: [Share; Table::MAX_TASKS],
     peaks: Peaks,

@@ -24,8 +24,8 @@ use Rattle.table.specs.Accepted.{GoodTimes, GoodTo, GoodTask, Accepted}
 use Rattle.table.specs.Refusals.{RisesAt}
 use Rattle.table.proofs.FirstLaws.{first_fine, then_fine, each_fine}
 use Rattle.table.proofs.RuleFacts.{times_range_is, times_order_is}
-use Rattle.table.proofs.GroupLaws.{groups-range-is}
-use Rattle.table.proofs.AlphaLaws.{holds_unless, some-only-is, rises-is, all_or_none_reads, never_rises}
+use Rattle.table.proofs.GroupLaws.{groups_range_is}
+use Rattle.table.proofs.AlphaLaws.{holds_unless, some_only_is, rises_is, all_or_none_reads, never_rises}
 use Rattle.table.proofs.RuleLaws.{unless_fine, good_times, times_range, times_order, pair_good, pair_fine}
 
 -- ---- one task
@@ -77,10 +77,10 @@ task_fine place last x g e =
 
 -- the task at a slot
 pub good_at_lem : (t : Table) (i : ℕ) → task_fault_at t i ≡ Fine → GoodTask (task_at t i) × (RisesAt t i → ⊥)
-good_at_lem t i e = let g = task_good _ (last_alpha t i) (task_at t i) e in (g.0, (holds_unless _ (rises-is t i)).0 g.1)
+good_at_lem t i e = let g = task_good _ (last_alpha t i) (task_at t i) e in (g.0, (holds_unless _ (rises_is t i)).0 g.1)
 
 pub at_fine : (t : Table) (i : ℕ) → GoodTask (task_at t i) → (RisesAt t i → ⊥) → task_fault_at t i ≡ Fine
-at_fine t i g n = task_fine _ (last_alpha t i) (task_at t i) g ((holds_unless _ (rises-is t i)).1 n)
+at_fine t i g n = task_fine _ (last_alpha t i) (task_at t i) g ((holds_unless _ (rises_is t i)).1 n)
 
 -- ---- the table
 
@@ -93,14 +93,14 @@ fine_accepted t e =
     let m = within_true 1 max_cpus t.cpus (unless_fine _ OutOfRange 0 c.0) in
     let g = then_fine (unless (groups_in_range t.groups) OutOfRange 0) _ c.1 in
     let d = then_fine (unless (all_or_none (alphas_to t t.n) t.n) AlphaMissing 0) _ g.1 in
-    let s = (all_or_none_reads t).0 ((holds_unless _ (some-only-is t)).0 (unless_fine _ AlphaMissing 0 d.0)) in
+    let s = (all_or_none_reads t).0 ((holds_unless _ (some_only_is t)).0 (unless_fine _ AlphaMissing 0 d.0)) in
     let x : (i : ℕ) → i < t.n → GoodTask (task_at t i) × (RisesAt t i → ⊥) = λ i h. good_at_lem t i (each_fine t.n (task_fault_at t) d.1 i h) in
     record {
       tasks_least = leb-true _ _ (unless_fine _ NoTask 0 a.0);
       tasks_most = leb-true _ _ (unless_fine _ TooManyTasks 0 b.0);
       cpus_least = m.0;
       cpus_most = m.1;
-      groups_most = (groups-range-is t).0 (unless_fine _ OutOfRange 0 g.0);
+      groups_most = (groups_range_is t).0 (unless_fine _ OutOfRange 0 g.0);
       all_or_none_reads = s;
       never_rises = (never_rises t s).0 (λ i h. (x i h).1);
       task = λ i h. (x i h).0;
@@ -113,7 +113,7 @@ accepted_fine t a =
       le-leb 1 t.n a.tasks_least,
       le-leb t.n max_tasks a.tasks_most,
       within_in 1 max_cpus t.cpus a.cpus_least a.cpus_most,
-      (groups-range-is t).1 a.groups_most,
-      (holds_unless _ (some-only-is t)).1 ((all_or_none_reads t).1 a.all_or_none_reads),
+      (groups_range_is t).1 a.groups_most,
+      (holds_unless _ (some_only_is t)).1 ((all_or_none_reads t).1 a.all_or_none_reads),
     )
     (first_fine t.n (task_fault_at t) (λ i h. at_fine t i (a.task i h) ((never_rises t a.all_or_none_reads).1 a.never_rises i h)))

@@ -27,32 +27,32 @@ holds_unless {P} b f = (λ e p. true≢false (sym e ∙ f.1 p), go b f.0)
 module _ (t : Table) where
   -- ---- 17
 
-  some-counted : SomeOnly t → (1 ≤ alphas_to t t.n) × (alphas_to t t.n < t.n)
-  some-counted s = (
+  some_counted : SomeOnly t → (1 ≤ alphas_to t t.n) × (alphas_to t t.n < t.n)
+  some_counted s = (
     count_one t.n s.with (has_alpha t) s.with_in (lt-ltb 0 (alpha_at t s.with) s.given),
     count_but t.n s.without (has_alpha t) s.without_in (le-ltb 0 (alpha_at t s.without) (omega (arith, s.none))),
   )
 
-  counted-some : 1 ≤ alphas_to t t.n → alphas_to t t.n < t.n → SomeOnly t
-  counted-some l h =
+  counted_some : 1 ≤ alphas_to t t.n → alphas_to t t.n < t.n → SomeOnly t
+  counted_some l h =
       let x = count_found t.n (has_alpha t) l in
       let y = count_missed t.n (has_alpha t) h in
       let z = ltb-false 0 (alpha_at t y.0) y.2 in
       record { with = x.0; without = y.0; with_in = x.1; without_in = y.1; given = ltb-true 0 _ x.2; none = omega arith }
 
-  pub some-only-is : (all_or_none (alphas_to t t.n) t.n ≡ false) exactly_if SomeOnly t
-  some-only-is = (there, back)
+  pub some_only_is : (all_or_none (alphas_to t t.n) t.n ≡ false) exactly_if SomeOnly t
+  some_only_is = (there, back)
     where
       there : all_or_none (alphas_to t t.n) t.n ≡ false → SomeOnly t
       there e =
           let f = or_neither (eqb (alphas_to t t.n) 0) _ e in
           let x = eqb-false (alphas_to t t.n) 0 f.0 in
           let y = eqb-false (alphas_to t t.n) t.n f.1 in
-          counted-some (omega arith) (omega (arith, count_most t.n (has_alpha t)))
+          counted_some (omega arith) (omega (arith, count_most t.n (has_alpha t)))
 
       back : SomeOnly t → all_or_none (alphas_to t t.n) t.n ≡ false
       back s =
-          let c = some-counted s in
+          let c = some_counted s in
           rw (ne_eqb (alphas_to t t.n) 0 (λ e. omega arith), ne_eqb (alphas_to t t.n) t.n (λ e. omega arith))
 
   -- ---- 18
@@ -62,10 +62,10 @@ module _ (t : Table) where
     no_alpha : a ≡ 0 → ((j : ℕ) → j < i → alpha_at t j ≡ 0) → LastIs i a
     of_task : (b : ℕ) → b < i → 1 ≤ a → ((j : ℕ) → b < j → j < i → alpha_at t j ≡ 0) → a ≡ alpha_at t b → LastIs i a
 
-  last-is : (i : ℕ) → LastIs i (last_alpha t i)
+  last_is : (i : ℕ) → LastIs i (last_alpha t i)
   unfolding last_alpha
-  last-is zero = no_alpha refl (λ j h. absurd (omega arith))
-  last-is (suc i) = go (ltb 0 (alpha_at t i)) refl (last-is i)
+  last_is zero = no_alpha refl (λ j h. absurd (omega arith))
+  last_is (suc i) = go (ltb 0 (alpha_at t i)) refl (last_is i)
     where
       go : (b : Bool) → ltb 0 (alpha_at t i) ≡ b → LastIs i (last_alpha t i) → LastIs (suc i) (pick b (alpha_at t i) (last_alpha t i))
       go true e l = of_task i (omega arith) (ltb-true 0 _ e) (λ j g h. absurd (omega arith)) refl
@@ -81,17 +81,17 @@ module _ (t : Table) where
           more z n j g k (no q) = n j g (omega arith)
 
   -- the last task with one is one
-  same-before : (i b c : ℕ) → b < i → c < i → 1 ≤ alpha_at t b → 1 ≤ alpha_at t c → ((j : ℕ) → b < j → j < i → alpha_at t j ≡ 0) → ((j : ℕ) → c < j → j < i → alpha_at t j ≡ 0)
+  same_before : (i b c : ℕ) → b < i → c < i → 1 ≤ alpha_at t b → 1 ≤ alpha_at t c → ((j : ℕ) → b < j → j < i → alpha_at t j ≡ 0) → ((j : ℕ) → c < j → j < i → alpha_at t j ≡ 0)
       → b ≡ c
-  same-before i b c h k x y n m = go (dec_lt b c) (dec_lt c b)
+  same_before i b c h k x y n m = go (dec_lt b c) (dec_lt c b)
     where
       go : Dec (b < c) → Dec (c < b) → b ≡ c
       go (yes d) e = absurd (omega (arith, n c d k))
       go (no d) (yes e) = absurd (omega (arith, m b e h))
       go (no d) (no e) = omega arith
 
-  pub rises-is : (i : ℕ) → (may_follow (last_alpha t i) (alpha_at t i) ≡ false) exactly_if RisesAt t i
-  rises-is i = (λ e. there (last-is i) (or_neither _ _ e), λ r. back (last-is i) r)
+  pub rises_is : (i : ℕ) → (may_follow (last_alpha t i) (alpha_at t i) ≡ false) exactly_if RisesAt t i
+  rises_is i = (λ e. there (last_is i) (or_neither _ _ e), λ r. back (last_is i) r)
     where
       there : LastIs i (last_alpha t i) → (eqb (last_alpha t i) 0 ≡ false) × (leb (alpha_at t i) (last_alpha t i) ≡ false) → RisesAt t i
       there (no_alpha z n) f = absurd (eqb-false _ _ f.0 z)
@@ -102,7 +102,7 @@ module _ (t : Table) where
       back : LastIs i (last_alpha t i) → RisesAt t i → may_follow (last_alpha t i) (alpha_at t i) ≡ false
       back (no_alpha z n) r = absurd (omega (arith, n r.before r.earlier, r.given))
       back (of_task b h l n q) r =
-          let s = same-before i b r.before h r.earlier (rw (← q) l) r.given n r.last in
+          let s = same_before i b r.before h r.earlier (rw (← q) l) r.given n r.last in
           let a = r.above in
           let c : last_alpha t i < alpha_at t i = rw q (rw (← s) at a) in
           rw (ne_eqb (last_alpha t i) 0 (λ e. omega arith), lt-leb (alpha_at t i) (last_alpha t i) c)

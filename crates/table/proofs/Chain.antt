@@ -21,9 +21,9 @@ goes b e g = ap (λ y. y then b) (sym e ∙ g)
 
 -- what was written: nothing was said against it, and it has that many bytes
 pub wrote_is : (c : Checked) {n k : ℕ} → or_wrote c n ≡ Wrote k → (c ≡ Fine) × (n ≡ k)
-wrote_is Fine e = (refl, ap wroteOf e)
+wrote_is Fine e = (refl, ap wrote_of e)
   where
-    wroteOf : Written → ℕ
-    wroteOf (Wrote k) = k
-    wroteOf (NotWritten r) = 0
+    wrote_of : Written → ℕ
+    wrote_of (Wrote k) = k
+    wrote_of (NotWritten r) = 0
 wrote_is (Refused r) e = let z : ◌≡◌ {A = ℕ} 0 1 = cc in absurd (omega arith)

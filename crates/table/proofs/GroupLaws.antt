@@ -23,32 +23,32 @@ not_true true e = absurd (true≢false (sym e))
 not_true false e = refl
 
 module _ (t : Table) where
-  pub groups-range-is : (groups_in_range t.groups ≡ true) exactly_if GroupsInRange t
+  pub groups_range_is : (groups_in_range t.groups ≡ true) exactly_if GroupsInRange t
   unfolding groups_in_range
-  groups-range-is =
+  groups_range_is =
       (λ e k h. leb-true _ _ (all_at max_resources k _ e h), λ g. all_hold max_resources _ (λ k h. le-leb (group_at t k) max_group (g k h)))
 
   -- a group above 16
-  pub group-above : groups_in_range t.groups ≡ false → (k : ℕ) × (k < max_resources) × (max_group < group_at t k)
+  pub group_above : groups_in_range t.groups ≡ false → (k : ℕ) × (k < max_resources) × (max_group < group_at t k)
   unfolding groups_in_range
-  group-above e = let z = all_missed max_resources (λ k. leb (group_at t k) max_group) e in (z.0, z.1, leb-false _ _ z.2)
+  group_above e = let z = all_missed max_resources (λ k. leb (group_at t k) max_group) e in (z.0, z.1, leb-false _ _ z.2)
 
-  pub above-out : (k : ℕ) → k < max_resources → max_group < group_at t k → groups_in_range t.groups ≡ false
+  pub above_out : (k : ℕ) → k < max_resources → max_group < group_at t k → groups_in_range t.groups ≡ false
   unfolding groups_in_range
-  above-out k h l = all_fails max_resources k _ h (lt-leb (group_at t k) max_group l)
+  above_out k h l = all_fails max_resources k _ h (lt-leb (group_at t k) max_group l)
 
   -- no group
-  pub no-group-is : (has_group t.groups ≡ false) exactly_if NoGroup t
+  pub no_group_is : (has_group t.groups ≡ false) exactly_if NoGroup t
   unfolding has_group
-  no-group-is = (
+  no_group_is = (
     λ e k h. eqb-true _ _ (all_at max_resources k (λ k. eqb (group_at t k) 0) (not_false _ e) h),
     λ z. ap not (all_hold max_resources (λ k. eqb (group_at t k) 0) (λ k h. eq-eqb _ _ (z k h))),
   )
 
   -- a group: of some resource
-  pub group-is : (has_group t.groups ≡ true) exactly_if ((k : ℕ) × (k < max_resources) × (1 ≤ group_at t k))
+  pub group_is : (has_group t.groups ≡ true) exactly_if ((k : ℕ) × (k < max_resources) × (1 ≤ group_at t k))
   unfolding has_group
-  group-is = (λ e. some (all_missed max_resources (λ k. eqb (group_at t k) 0) (not_true _ e)), there)
+  group_is = (λ e. some (all_missed max_resources (λ k. eqb (group_at t k) 0) (not_true _ e)), there)
     where
       some : ((k : ℕ) × (k < max_resources) × (eqb (group_at t k) 0 ≡ false)) → (k : ℕ) × (k < max_resources) × (1 ≤ group_at t k)
       some z = (z.0, z.1, least (group_at t z.0) (eqb-false _ _ z.2))

@@ -10,7 +10,7 @@ use lib.ListN.{get_or-map}
 use lib.Dec.{ltb}
 use Rattle.basics.specs.Choice.{pick}
 use Rattle.basics.specs.Over.{row_to}
-use Rattle.basics.proofs.RowLaws.{row-eq}
+use Rattle.basics.proofs.RowLaws.{row_eq}
 use Rattle.table.specs.declared.Task.{Task}
 use Rattle.table.specs.declared.Table.{Table}
 use Rattle.table.specs.declared.Checked.TheVariants.{Fine}
@@ -56,7 +56,7 @@ none_with x e = λ j. record { period = x.period; run = x.run; deadline = x.dead
 pub none_cleared : (t : Table) → NoAlpha t → cleared (without_alpha t) ≡ cleared t
 unfolding cleared without_alpha
 none_cleared t z =
-    let e = row-eq max_tasks (λ i. pick (ltb i t.n) (cleared_task (task_at (without_alpha t) i)) empty_task) (λ i. pick (ltb i t.n) (cleared_task (task_at t i)) empty_task)
+    let e = row_eq max_tasks (λ i. pick (ltb i t.n) (cleared_task (task_at (without_alpha t) i)) empty_task) (λ i. pick (ltb i t.n) (cleared_task (task_at t i)) empty_task)
     (λ i h. go i (ltb i t.n) refl) in
     ap (λ (row : List Task). record { cpus = t.cpus; n = t.n; groups = row_to max_resources (group_at t); tasks = row }) e
   where

@@ -1,26 +1,28 @@
 // The task table: its types, its limits and its refusals. The rules that it is held to stand in specs/; their code is in `rules` and `checking`.
+#![tactic(auto)]
+
 ghost use Rattle.std.specs.Prelude.{◌≡◌};
 ghost use Rattle.table.specs.Limits.{max_cpus, max_tasks, max_resources, max_group, max_time, max_count, max_alpha, max_listing};
 ghost use Rattle.table.specs.Empty.{unused_pair, empty_task, empty_table};
 ghost use Rattle.table.specs.Faults.{number_of};
 
 // A priority: a task's number, 1 the highest, or a resource's ceiling.
-#[derive(Drop)]
+#[derive(Clone, Copy)]
 pub struct Level(pub u32);
 
 // A resource's number, from 1.
-#[derive(Drop)]
+#[derive(Clone, Copy)]
 pub struct Resource(pub u32);
 
 // What one task asks of one resource; all three are 0 where it does not use it.
-#[derive(Drop)]
+#[derive(Clone, Copy)]
 pub struct Pair {
     pub requests: u32, // N: most requests by one job
     pub longest: u32, // c: longest single request
     pub total: u32, // CT: total of one job
 }
 
-#[derive(Drop)]
+#[derive(Clone, Copy)]
 pub struct Task {
     pub period: u32, // T: shortest time between releases
     pub run: u32, // C: run time
@@ -29,7 +31,7 @@ pub struct Task {
     pub pairs: [Pair; Table::MAX_RESOURCES], // resource k at k - 1
 }
 
-#[derive(Drop)]
+#[derive(Clone, Copy)]
 pub struct Table {
     pub cpus: u32, // m
     pub n: usize,
@@ -38,7 +40,7 @@ pub struct Table {
 }
 
 // The refusals, in the order of their numbers.
-#[derive(Drop)]
+#[derive(Clone, Copy)]
 pub enum Fault {
     TooLong,
     BadForm,
@@ -63,27 +65,27 @@ pub enum Fault {
 }
 
 // A fault, and where it was found: a line, a task, or a block of an archive.
-#[derive(Drop)]
+#[derive(Clone, Copy)]
 pub struct Refusal {
     pub fault: Fault,
     pub place: u32,
 }
 
-#[derive(Drop)]
+#[derive(Clone, Copy)]
 pub enum Checked {
     Fine,
     Refused(Refusal),
 }
 
 // What a reader of a table answers: the table that was read; or the refusal, with the empty table.
-#[derive(Drop)]
+#[derive(Clone, Copy)]
 pub struct Reading {
     pub answer: Checked,
     pub table: Table,
 }
 
 // What a writer of a table answers: how many bytes were written, or why none were.
-#[derive(Drop)]
+#[derive(Clone, Copy)]
 pub enum Written {
     Wrote(usize),
     NotWritten(Refusal),
@@ -179,12 +181,12 @@ impl Table {
 
 // The limits that the definitions read, specs/Limits.antt, are these constants.
 fn limits()
-    ensures* do_value { do ⌜ (← (⟦Table::MAX_CPUS⟧).entry) ≡ max_cpus ⌝ }
-    ensures* do_value_2 { do ⌜ (← (⟦Table::MAX_TASKS⟧).entry) ≡ max_tasks ⌝ }
-    ensures* do_value_3 { do ⌜ (← (⟦Table::MAX_RESOURCES⟧).entry) ≡ max_resources ⌝ }
-    ensures* do_value_4 { do ⌜ (← (⟦Table::MAX_GROUP⟧).entry) ≡ max_group ⌝ }
-    ensures* do_value_5 { do ⌜ (← (⟦Table::MAX_TIME⟧).entry) ≡ max_time ⌝ }
-    ensures* do_value_6 { do ⌜ (← (⟦Table::MAX_COUNT⟧).entry) ≡ max_count ⌝ }
-    ensures* do_value_7 { do ⌜ (← (⟦Table::MAX_ALPHA⟧).entry) ≡ max_alpha ⌝ }
-    ensures* do_value_8 { do ⌜ (← (⟦Table::MAX_LISTING⟧).entry) ≡ max_listing ⌝ }
+    ensures cpus { Table.MAX_CPUS ≡ max_cpus }
+    ensures tasks { Table.MAX_TASKS ≡ max_tasks }
+    ensures resources { Table.MAX_RESOURCES ≡ max_resources }
+    ensures group { Table.MAX_GROUP ≡ max_group }
+    ensures time { Table.MAX_TIME ≡ max_time }
+    ensures count { Table.MAX_COUNT ≡ max_count }
+    ensures alpha { Table.MAX_ALPHA ≡ max_alpha }
+    ensures listing { Table.MAX_LISTING ≡ max_listing }
 {}

@@ -10,12 +10,12 @@ use Rattle.theory.specs.Demand.{Load, demand_with, demand_of}
 use Rattle.theory.specs.Bound.{Least}
 use Rattle.theory.proofs.WorkLaws.{uncapped_rises, workload_less}
 use Rattle.theory.proofs.LeastLaws.{keeps_bound}
-use Rattle.theory.proofs.DemandLaws.{Runs, NoMore, TermsGrow, demand-le, terms_itself}
+use Rattle.theory.proofs.DemandLaws.{Runs, NoMore, TermsGrow, demand_le, terms_itself}
 
 -- a task that has a bound in the second table, by the second workload, has one in the first by the first, no larger
 pub terms_keep : (W W' : Load) (v w : View) (i : Level) → w.D i ≡ v.D i → ((t : ℕ) → TermsGrow W W' v w i t t)
     → (t : ℕ) → Least (demand_with W' w i) (w.D i) t → (u : ℕ) × Least (demand_with W v i) (v.D i) u × (u ≤ t)
-terms_keep W W' v w i e g t l = keeps_bound (demand_with W v i) (demand_with W' w i) (v.D i) t (λ t. demand-le W W' v w i t t (g t)) (rw e at l)
+terms_keep W W' v w i e g t l = keeps_bound (demand_with W v i) (demand_with W' w i) (v.D i) t (λ t. demand_le W W' v w i t t (g t)) (rw e at l)
 
 workload_no_more : NoMore workload uncapped
 workload_no_more T T' D t t' x pos hT ht = le_trans (workload_less T D t x) (uncapped_rises T T' D t t' x pos hT ht)

@@ -57,27 +57,27 @@ module _ (W W' : Load) (v w : View) (i : Level) (t t' : ℕ) where
     pub L : Loads (high_CT v i) (high_CT w i)
 
   -- a sum over some of the tasks
-  part-le : v.n ≤ w.n → (p : Level → Bool) (x y : Level → ℕ) → Loads x y
+  part_le : v.n ≤ w.n → (p : Level → Bool) (x y : Level → ℕ) → Loads x y
       → sum_to v.n (λ l. only (p (level l)) (load_of W v t (level l) (x (level l))))
       ≤ sum_to w.n (λ l. only (p (level l)) (load_of W' w t' (level l) (y (level l))))
-  part-le m p x y le = sum_wider v.n w.n _ _ m (λ l h. only_le (p (level l)) _ _ _ refl (le l h))
+  part_le m p x y le = sum_wider v.n w.n _ _ m (λ l h. only_le (p (level l)) _ _ _ refl (le l h))
 
-  pub demand-le : TermsGrow → demand_with W v i t ≤ demand_with W' w i t'
+  pub demand_le : TermsGrow → demand_with W v i t ≤ demand_with W' w i t'
   unfolding demand_with S O F L
-  demand-le g =
+  demand_le g =
       let above : Level → Bool = λ l. is_above l i in
       let others : O W v i t + F W v i t + L W v i t ≤ O W' w i t' + F W' w i t' + L W' w i t' =
       omega (
         arith,
-        part-le g.n above (other_CT v i) (other_CT w i) g.O,
-        part-le g.n above (λ l. v.C l - all_CT v l) (λ l. w.C l - all_CT w l) g.F,
-        part-le g.n (is_above i) (high_CT v i) (high_CT w i) g.L,
+        part_le g.n above (other_CT v i) (other_CT w i) g.O,
+        part_le g.n above (λ l. v.C l - all_CT v l) (λ l. w.C l - all_CT w l) g.F,
+        part_le g.n (is_above i) (high_CT v i) (high_CT w i) g.L,
       ) in
       omega (
         arith,
         g.C,
         g.DB,
-        part-le g.n above (shared_CT v i) (shared_CT w i) g.S,
+        part_le g.n above (shared_CT v i) (shared_CT w i) g.S,
         divided i.0 v.cpus w.cpus _ _ g.some g.cpus others (dec_le i.0 v.cpus),
       )
 
@@ -99,4 +99,4 @@ terms_itself W W' up v runs i t t' ht =
     }
 
 pub demand_rises : (W : Load) → NoMore W W → (v : View) → Runs v → (i : Level) → Rises (demand_with W v i)
-demand_rises W up v runs i t t' ht = demand-le W W v v i t t' (terms_itself W W up v runs i t t' ht)
+demand_rises W up v runs i t t' ht = demand_le W W v v i t t' (terms_itself W W up v runs i t t' ht)

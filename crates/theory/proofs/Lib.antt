@@ -2,12 +2,12 @@
 --   CasesHold     the computed cases
 --   WorkLaws      jobs_rise, uncapped_rises; workload_rises, workload_grows, workload_window, workload_less, workload_none; ceil_div_rises, ceil_div_whole
 --   LeastLaws     Rises, From, from-start, from-step, past; least_unique, least_none, keeps-bound
---   RoundLaws     round-repeats, round-passes, round-goes-on; no-end, counts-once, counts-more, counts-unique
---   AllowanceLaws open-rounds, settled-rounds, going-open, open-above, open-count, rounds-most, stays
---   EndLaws       counts-exists; Right, counted-right, meets-if, misses-if
---   MergeLaws     slot-alone, slot-found, slot-below, pair-alone; none-tasks, merged-task, merged-pair; merged_agrees, merged_bounds
+--   RoundLaws     round_repeats, round_passes, round_goes_on; no-end, counts_once, counts_more, counts_unique
+--   AllowanceLaws open_rounds, settled_rounds, going_open, open-above, open_count, rounds_most, stays
+--   EndLaws       counts_exists; Right, counted_right, meets_if, misses_if
+--   MergeLaws     slot_alone, slot_found, slot_below, pair_alone; none_tasks, merged_task_lem, merged_pair_lem; merged_agrees, merged_bounds
 --   PassLaws      ceiling_above, split_all, largest_none, where_used
---   DemandLaws    Runs, NoMore, demand_start, TermsGrow, demand-le, terms_itself, demand_rises
+--   DemandLaws    Runs, NoMore, demand_start, TermsGrow, demand_le, terms_itself, demand_rises
 --   BoundLaws     terms_keep, capped_keeps
 pub mod CasesHold
 pub mod WorkLaws

@@ -14,17 +14,17 @@ use Rattle.theory.specs.Rounds.{once, one_more, counted_from, length_after, Ends
 -- ---- one round
 
 module _ (f : ℕ → ℕ) (D left t : ℕ) where
-  pub round-repeats : f t ≡ t → counted_from f D (suc left) t ≡ once (Meets t)
+  pub round_repeats : f t ≡ t → counted_from f D (suc left) t ≡ once (Meets t)
   unfolding counted_from
-  round-repeats e = rw (eq-eqb (f t) t e)
+  round_repeats e = rw (eq-eqb (f t) t e)
 
-  pub round-passes : (f t ≡ t → ⊥) → D < f t → counted_from f D (suc left) t ≡ once Misses
+  pub round_passes : (f t ≡ t → ⊥) → D < f t → counted_from f D (suc left) t ≡ once Misses
   unfolding counted_from
-  round-passes n d = rw (ne_eqb (f t) t n, lt-ltb D (f t) d)
+  round_passes n d = rw (ne_eqb (f t) t n, lt-ltb D (f t) d)
 
-  pub round-goes-on : (f t ≡ t → ⊥) → f t ≤ D → counted_from f D (suc left) t ≡ one_more (counted_from f D left (f t))
+  pub round_goes_on : (f t ≡ t → ⊥) → f t ≤ D → counted_from f D (suc left) t ≡ one_more (counted_from f D left (f t))
   unfolding counted_from
-  round-goes-on n d = rw (ne_eqb (f t) t n, le-ltb D (f t) d)
+  round_goes_on n d = rw (ne_eqb (f t) t n, le-ltb D (f t) d)
 
 -- ---- the count without an allowance
 
@@ -33,25 +33,25 @@ module _ (f : ℕ → ℕ) (D : ℕ) where
   no_end t n d (inl e) = n e
   no_end t n d (inr e) = d e
 
-  pub counts-once : (t : ℕ) → Ends f D t → Counts f D t 1
+  pub counts_once : (t : ℕ) → Ends f D t → Counts f D t 1
   unfolding length_after
-  counts-once t e = record { some = le_refl 1; ends = e; goes_on = λ k h. absurd (omega arith) }
+  counts_once t e = record { some = le_refl 1; ends = e; goes_on = λ k h. absurd (omega arith) }
 
-  pub counts-more : (t n : ℕ) → (Ends f D t → ⊥) → Counts f D (f t) n → Counts f D t (suc n)
+  pub counts_more : (t n : ℕ) → (Ends f D t → ⊥) → Counts f D (f t) n → Counts f D t (suc n)
   unfolding length_after
-  counts-more t zero on c = absurd (not-suc-le-zero c.some)
-  counts-more t (suc n) on c = record { some = omega arith; ends = simp unary_clauses (simp unary_clauses at c.ends); goes_on = later }
+  counts_more t zero on c = absurd (not-suc-le-zero c.some)
+  counts_more t (suc n) on c = record { some = omega arith; ends = simp unary_clauses (simp unary_clauses at c.ends); goes_on = later }
     where
       later : (k : ℕ) → suc k < suc (suc n) → Ends f D (length_after f k t) → ⊥
       later zero h e = on e
       later (suc k) h e = c.goes_on k (omega arith) e
 
   -- the round after which another count ends is none that goes on
-  counts-le : (C n m : ℕ) → Counts f D C n → Counts f D C m → Dec (m < n) → n ≤ m
-  counts-le C n m p q (yes l) =
+  counts_le : (C n m : ℕ) → Counts f D C n → Counts f D C m → Dec (m < n) → n ≤ m
+  counts_le C n m p q (yes l) =
       let e : suc (m - 1) ≡ m = omega (arith, q.some) in
       absurd (p.goes_on (m - 1) (rw e l) q.ends)
-  counts-le C n m p q (no l) = omega arith
+  counts_le C n m p q (no l) = omega arith
 
-  pub counts-unique : (C n m : ℕ) → Counts f D C n → Counts f D C m → n ≡ m
-  counts-unique C n m p q = le_antisymm (counts-le C n m p q (dec_lt m n)) (counts-le C m n q p (dec_lt n m))
+  pub counts_unique : (C n m : ℕ) → Counts f D C n → Counts f D C m → n ≡ m
+  counts_unique C n m p q = le_antisymm (counts_le C n m p q (dec_lt m n)) (counts_le C m n q p (dec_lt n m))

@@ -1,4 +1,6 @@
 // Reads an archive from standard input and writes the listing of its table; refused, nothing but the refusal, to standard error, so that no half listing can be mistaken for one.
+#![tactic(auto)]
+
 use block::SIZE;
 use console::Input;
 use libc::{STDERR_FILENO, STDOUT_FILENO};

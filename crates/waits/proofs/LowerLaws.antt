@@ -12,7 +12,7 @@ use lib.ListN.{length}
 use Rattle.basics.specs.Choice.{pick, only}
 use Rattle.basics.specs.Over.{sum_to, join_to}
 use Rattle.basics.proofs.SumLaws.{sum_le, sum_add, sum_one}
-use Rattle.basics.proofs.JoinLaws.{join-length, join-eq, join-through}
+use Rattle.basics.proofs.JoinLaws.{join_length, join_eq, join_through}
 use Rattle.table.specs.declared.Task.{Task}
 use Rattle.table.specs.declared.Table.{Table}
 use Rattle.table.specs.Limits.{max_resources}
@@ -21,7 +21,7 @@ use Rattle.theory.specs.View.{level, resource}
 use Rattle.theory.specs.Tables.{view_of}
 use Rattle.waits.specs.Wait.{others_of, others_below}
 use Rattle.waits.specs.Kept.{key_slots, key_of, key_at, keys_of, keys_from, others_kept}
-use Rattle.waits.proofs.OthersLaws.{others-append}
+use Rattle.waits.proofs.OthersLaws.{others_append}
 
 -- ---- of one task
 
@@ -48,7 +48,7 @@ others_key x k j h = go (ltb 0 (pair_of x j).requests) (eqb j k) refl
 
 others_task : (x : Task) (k : ℕ) → others_kept k (keys_of x) ≡ join_to max_resources (other_at x k)
 others_task x k =
-    join-through (others_kept k) refl (others-append k) max_resources (key_at x) ∙ join-eq max_resources _ _ (λ j h. others_key x k j h)
+    join_through (others_kept k) refl (others_append k) max_resources (key_at x) ∙ join_eq max_resources _ _ (λ j h. others_key x k j h)
 
 -- at most one is for the resource at slot k
 few_own : (x : Task) (k : ℕ) → k < max_resources → length (keys_of x) ≤ length (others_kept k (keys_of x)) + 1
@@ -57,9 +57,9 @@ few_own x k h =
     let o : ℕ → ℕ = λ j. length (other_at x k j) in
     omega (
       arith,
-      join-length max_resources (key_at x),
+      join_length max_resources (key_at x),
       ap length (others_task x k),
-      join-length max_resources (other_at x k),
+      join_length max_resources (other_at x k),
       sum_one max_resources k g o h (λ j d. same j d (ltb 0 (pair_of x j).requests)),
       one (ltb 0 (pair_of x k).requests),
     )
@@ -78,8 +78,8 @@ few_own x k h =
 pub others_below_lem : (t : Table) (i k : ℕ) → others_kept k (keys_from t (suc i)) ≡ others_below (view_of t) (level i) (resource k)
 unfolding others_of others_below
 others_below_lem t i k =
-    join-through (others_kept k) refl (others-append k) t.n _
-    ∙ join-eq t.n _ _ (λ l h. go l (leb (suc i) l) ∙ ap (λ (b : Bool). pick b (join_to max_resources (other_at (task_at t l) k)) []) (sym (leb-suc-suc (suc i) l)))
+    join_through (others_kept k) refl (others_append k) t.n _
+    ∙ join_eq t.n _ _ (λ l h. go l (leb (suc i) l) ∙ ap (λ (b : Bool). pick b (join_to max_resources (other_at (task_at t l) k)) []) (sym (leb-suc-suc (suc i) l)))
   where
     go : (l : ℕ) (b : Bool) → others_kept k (pick b (keys_of (task_at t l)) []) ≡ pick b (join_to max_resources (other_at (task_at t l) k)) []
     go l true = others_task (task_at t l) k
@@ -98,9 +98,9 @@ pub few_below : (t : Table) (i k : ℕ) → k < max_resources → length (keys_f
 few_below t i k h =
     omega (
       arith,
-      join-length t.n keys,
-      ap length (join-through (others_kept k) refl (others-append k) t.n keys),
-      join-length t.n (λ l. others_kept k (keys l)),
+      join_length t.n keys,
+      ap length (join_through (others_kept k) refl (others_append k) t.n keys),
+      join_length t.n (λ l. others_kept k (keys l)),
       sum_le t.n _ _ (λ l _. go l (leb i l)),
       sum_add t.n (λ l. length (others_kept k (keys l))) (λ l. only (leb i l) 1),
       tasks_from t.n i,

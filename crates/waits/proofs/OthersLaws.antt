@@ -15,17 +15,17 @@ use Rattle.basics.proofs.FallingLaws.{at_most_more, falling_descends, insert_fro
 use Rattle.waits.specs.Kept.{key_slots, others_kept}
 
 module _ (k : ℕ) where
-  pub others-append : (xs ys : List ℕ) → others_kept k (xs ++ ys) ≡ others_kept k xs ++ others_kept k ys
-  others-append [] ys = refl
-  others-append (x ∷ xs) ys = go (eqb (x % key_slots) k) (others_kept k (xs ++ ys)) (others_kept k xs) (others-append xs ys)
+  pub others_append : (xs ys : List ℕ) → others_kept k (xs ++ ys) ≡ others_kept k xs ++ others_kept k ys
+  others_append [] ys = refl
+  others_append (x ∷ xs) ys = go (eqb (x % key_slots) k) (others_kept k (xs ++ ys)) (others_kept k xs) (others_append xs ys)
     where
       go : (b : Bool) (l r : List ℕ) → l ≡ r ++ others_kept k ys → pick b l (x / key_slots ∷ l) ≡ pick b r (x / key_slots ∷ r) ++ others_kept k ys
       go true l r e = e
       go false l r e = ap {B = List ℕ} (λ (s : List ℕ). x / key_slots ∷ s) e
 
-  others-few : (S : List ℕ) → length (others_kept k S) ≤ length S
-  others-few [] = le_refl 0
-  others-few (x ∷ S) = go (eqb (x % key_slots) k) (others_kept k S) (others-few S)
+  others_few : (S : List ℕ) → length (others_kept k S) ≤ length S
+  others_few [] = le_refl 0
+  others_few (x ∷ S) = go (eqb (x % key_slots) k) (others_kept k S) (others_few S)
     where
       go : (b : Bool) (l : List ℕ) → length l ≤ length S → length (pick b l (x / key_slots ∷ l)) ≤ suc (length S)
       go true l h = omega arith
@@ -33,27 +33,27 @@ module _ (k : ℕ) where
 
   -- ---- a falling row
 
-  others-most : (b : ℕ) (S : List ℕ) → EachAtMost b S → EachAtMost (b / key_slots) (others_kept k S)
-  others-most b [] m = tt
-  others-most b (x ∷ S) m = go (eqb (x % key_slots) k) (others_kept k S) (others-most b S m.1)
+  others_most : (b : ℕ) (S : List ℕ) → EachAtMost b S → EachAtMost (b / key_slots) (others_kept k S)
+  others_most b [] m = tt
+  others_most b (x ∷ S) m = go (eqb (x % key_slots) k) (others_kept k S) (others_most b S m.1)
     where
       go : (t : Bool) (l : List ℕ) → EachAtMost (b / key_slots) l → EachAtMost (b / key_slots) (pick t l (x / key_slots ∷ l))
       go true l e = e
       go false l e = (omega (arith, m.0), e)
 
-  others-descend : (S : List ℕ) → Descends S → Descends (others_kept k S)
-  others-descend [] d = tt
-  others-descend (x ∷ S) d = go (eqb (x % key_slots) k) (others_kept k S) (others-most x S d.0) (others-descend S d.1)
+  others_descend : (S : List ℕ) → Descends S → Descends (others_kept k S)
+  others_descend [] d = tt
+  others_descend (x ∷ S) d = go (eqb (x % key_slots) k) (others_kept k S) (others_most x S d.0) (others_descend S d.1)
     where
       go : (t : Bool) (l : List ℕ) → EachAtMost (x / key_slots) l → Descends l → Descends (pick t l (x / key_slots ∷ l))
       go true l m e = e
       go false l m e = (m, e)
 
   -- a number put in its place in it
-  others-insert : (x : ℕ) (S : List ℕ) → Descends S
+  others_insert : (x : ℕ) (S : List ℕ) → Descends S
       → others_kept k (insert_into x S) ≡ pick (eqb (x % key_slots) k) (others_kept k S) (insert_into (x / key_slots) (others_kept k S))
-  others-insert x [] d = refl
-  others-insert x (y ∷ S) d = side (dec_le x y) (others-insert x S d.1)
+  others_insert x [] d = refl
+  others_insert x (y ∷ S) d = side (dec_le x y) (others_insert x S d.1)
     where
       behind : (t u : Bool) (a b : ℕ) (l : List ℕ) → a ≤ b
           → pick u (pick t l (insert_into a l)) (b ∷ pick t l (insert_into a l)) ≡ pick t (pick u l (b ∷ l)) (insert_into a (pick u l (b ∷ l)))
@@ -76,12 +76,12 @@ module _ (k : ℕ) where
           let m : EachAtMost x (y ∷ S) = (omega arith, at_most_more y x S (omega arith) d.0) in
           let l = others_kept k (y ∷ S) in
           ap (others_kept k) (insert_front x (y ∷ S) m d)
-          ∙ before (eqb (x % key_slots) k) (x / key_slots) l (insert_front (x / key_slots) l (others-most x (y ∷ S) m) (others-descend (y ∷ S) d))
+          ∙ before (eqb (x % key_slots) k) (x / key_slots) l (insert_front (x / key_slots) l (others_most x (y ∷ S) m) (others_descend (y ∷ S) d))
 
-  pub others-falling : (E : List ℕ) → others_kept k (falling E) ≡ falling (others_kept k E)
-  others-falling [] = refl
-  others-falling (x ∷ E) =
-      others-insert x (falling E) (falling_descends E) ∙ go (eqb (x % key_slots) k) (others-falling E)
+  pub others_falling : (E : List ℕ) → others_kept k (falling E) ≡ falling (others_kept k E)
+  others_falling [] = refl
+  others_falling (x ∷ E) =
+      others_insert x (falling E) (falling_descends E) ∙ go (eqb (x % key_slots) k) (others_falling E)
     where
       go : (t : Bool) → others_kept k (falling E) ≡ falling (others_kept k E)
           → pick t (others_kept k (falling E)) (insert_into (x / key_slots) (others_kept k (falling E)))
@@ -91,12 +91,12 @@ module _ (k : ℕ) where
 
   -- ---- of the first m, if those that are left out and A more are no more than m
 
-  pub others-take : (A m : ℕ) (S : List ℕ) → A + length S ≤ m + length (others_kept k S) → take A (others_kept k (take m S)) ≡ take A (others_kept k S)
-  others-take A zero S h =
-      let e : A ≡ 0 = omega (arith, others-few S) in
+  pub others_take : (A m : ℕ) (S : List ℕ) → A + length S ≤ m + length (others_kept k S) → take A (others_kept k (take m S)) ≡ take A (others_kept k S)
+  others_take A zero S h =
+      let e : A ≡ 0 = omega (arith, others_few S) in
       rw e
-  others-take A (suc m) [] h = refl
-  others-take A (suc m) (x ∷ S) h = go (eqb (x % key_slots) k) A h (λ B l. others-take B m S l)
+  others_take A (suc m) [] h = refl
+  others_take A (suc m) (x ∷ S) h = go (eqb (x % key_slots) k) A h (λ B l. others_take B m S l)
     where
       go : (b : Bool) (A : ℕ) → A + suc (length S) ≤ suc m + length (pick b (others_kept k S) (x / key_slots ∷ others_kept k S))
           → ((B : ℕ) → B + length S ≤ m + length (others_kept k S) → take B (others_kept k (take m S)) ≡ take B (others_kept k S))

@@ -41,29 +41,29 @@ Placing kept₀ n x kept i y = take i kept ++ insert_into y (drop i (take n kept
 
 module _ (kept₀ : List ℕ) (n x : ℕ) (kept : List ℕ) (i y : ℕ) (long : length kept ≡ max_kept) (few : n ≤ max_kept) (p : Placing kept₀ n x kept i y) where
   -- at i the larger stays, and the smaller goes on
-  pub placing-more : (a b : ℕ) → i < n → a ≡ max y (get_or kept i 0) → b ≡ min y (get_or kept i 0) → Placing kept₀ n x (set kept i a) (i + 1) b
-  placing-more a b h e f =
+  pub placing_more : (a b : ℕ) → i < n → a ≡ max y (get_or kept i 0) → b ≡ min y (get_or kept i 0) → Placing kept₀ n x (set kept i a) (i + 1) b
+  placing_more a b h e f =
       rw (add-one, take-suc-set kept i a (omega arith), take-set-lt n kept i a h, drop-set-lt (suc i) (take n kept) i a (le_refl (suc i)), append_snoc, e, f)
       (rw (drop-cons (take n kept) i 0 (omega (arith, length-take n kept)), get_or-take n kept i 0 h) at p)
 
   module _ (h : i ≤ n) (g : n ≤ i) where
-    placing-end : take n kept ++ (y ∷ []) ≡ insert_into x (take n kept₀)
-    placing-end =
+    placing_end : take n kept ++ (y ∷ []) ≡ insert_into x (take n kept₀)
+    placing_end =
         let e : i ≡ n = omega arith in
         rw (e, drop_of_length-le (take n kept) {i = n} (omega (arith, length-take n kept))) at p
 
     -- all places are taken, and y goes
-    pub placed-full : n ≡ max_kept → KeptWith (x ∷ []) kept₀ n n kept
-    placed-full e =
+    pub placed_full : n ≡ max_kept → KeptWith (x ∷ []) kept₀ n n kept
+    placed_full e =
         let t = take_at (take n kept) (y ∷ []) max_kept (length-take-le n kept (omega arith) ∙ e) in
-        record { long = long; few = few; first = sym (ap (take max_kept) (sym placing-end) ∙ t) }
+        record { long = long; few = few; first = sym (ap (take max_kept) (sym placing_end) ∙ t) }
 
     -- there is a place left
-    pub placed-room : n < max_kept → KeptWith (x ∷ []) kept₀ n (n + 1) (set kept n y)
-    placed-room e =
+    pub placed_room : n < max_kept → KeptWith (x ∷ []) kept₀ n (n + 1) (set kept n y)
+    placed_room e =
         let t = take_all max_kept (insert_into x (take n kept₀)) (omega (arith, insert_length x (take n kept₀), length-take n kept₀)) in
         record {
           long = simp length-set long;
           few = omega arith;
-          first = rw (add-one, take-suc-set kept n y (omega arith), placing-end) (sym t);
+          first = rw (add-one, take-suc-set kept n y (omega arith), placing_end) (sym t);
         }

@@ -27,8 +27,8 @@ module _ (kept : List ℕ) (n A k sum end i : ℕ) (g : Going kept n A k sum end
   next : i < n → drop i (take n kept) ≡ get_or kept i 0 ∷ drop (i + 1) (take n kept)
   next h = rw (drop-cons (take n kept) i 0 (omega (arith, length-take n kept, r.long, r.few)), get_or-take n kept i 0 h, add-one)
 
-  pub going-past : i < end → eqb (get_or kept i 0 % key_slots) k ≡ true → (e : ℕ) → e ≡ min (end + 1) n → Going kept n A k sum e (i + 1)
-  going-past h e z q =
+  pub going_past : i < end → eqb (get_or kept i 0 % key_slots) k ≡ true → (e : ℕ) → e ≡ min (end + 1) n → Going kept n A k sum e (i + 1)
+  going_past h e z q =
       record { left = g.left; summing = rw (next (omega (arith, g.ends)), e) at g.summing; ends = omega (arith, g.ends) }
 
   pub going_more : i < end → eqb (get_or kept i 0 % key_slots) k ≡ false → (c : ℕ) → c ≡ get_or kept i 0 / key_slots → Going kept n A k (sum + c) end (i + 1)
@@ -38,8 +38,8 @@ module _ (kept : List ℕ) (n A k sum end i : ℕ) (g : Going kept n A k sum end
       = rw (next (omega (arith, g.ends)), e, f) at g.summing in
       record { left = g.left - 1; summing = omega arith; ends = omega (arith, g.ends) }
 
-  pub going-last : end ≤ i → sum ≡ sum_others (take n kept) A k
-  going-last h = go (dec_le n i)
+  pub going_last : end ≤ i → sum ≡ sum_others (take n kept) A k
+  going_last h = go (dec_le n i)
     where
       go : Dec (n ≤ i) → sum ≡ sum_others (take n kept) A k
       go (yes l) = let q = rw (drop_of_length-le (take n kept) {i = i} (omega (arith, length-take n kept)), take-nil) at g.summing in omega arith

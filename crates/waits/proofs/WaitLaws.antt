@@ -12,8 +12,8 @@ use Rattle.basics.specs.Choice.{pick, only}
 use Rattle.basics.specs.Over.{row_to}
 use Rattle.basics.specs.Largest.{falling, sum_of, sum_largest}
 use Rattle.basics.proofs.SumLaws.{sum_eq, sum_part}
-use Rattle.basics.proofs.JoinLaws.{join-past, join-rest}
-use Rattle.basics.proofs.RowLaws.{back_none, back_more, back-all}
+use Rattle.basics.proofs.JoinLaws.{join_past, join_rest}
+use Rattle.basics.proofs.RowLaws.{back_none, back_more, back_all}
 use Rattle.basics.proofs.FallingLaws.{falling_length}
 use Rattle.table.specs.declared.Table.{Table}
 use Rattle.table.specs.Limits.{max_tasks, max_resources, max_alpha}
@@ -25,7 +25,7 @@ use Rattle.waits.specs.Wait.{others_below, wait_of}
 use Rattle.waits.specs.Answers.{no_waits}
 use Rattle.waits.specs.Kept.{max_kept, keys_of, keys_from, InLimits, KeptWith, others_kept, sum_others, wait_with, slot_wait_by, waits_by}
 use Rattle.waits.proofs.KeptLaws.{each_falling, kept_both}
-use Rattle.waits.proofs.OthersLaws.{others-falling, others-take}
+use Rattle.waits.proofs.OthersLaws.{others_falling, others_take}
 use Rattle.waits.proofs.LowerLaws.{others_below_lem, few_below}
 
 -- ---- the longest requests: the first n of a row
@@ -35,13 +35,13 @@ KeptFrom t i n kept = KeptWith (keys_from t i) [] 0 n kept
 
 pub from_none : (t : Table) (kept : List ℕ) → length kept ≡ max_kept → KeptFrom t t.n 0 kept
 from_none t kept l =
-    rw (join-past t.n t.n (λ j. keys_of (task_at t j)) (le_refl t.n)) (record { long = l; few = omega arith; first = refl })
+    rw (join_past t.n t.n (λ j. keys_of (task_at t j)) (le_refl t.n)) (record { long = l; few = omega arith; first = refl })
 
 pub from_more : (t : Table) (i n r : ℕ) (kept exit : List ℕ) → 0 < i → i ≤ t.n → KeptFrom t i n kept → KeptWith (keys_of (task_at t (i - 1))) kept n r exit
     → KeptFrom t (i - 1) r exit
 from_more t i n r kept exit h l was more =
     let e : suc (i - 1) ≡ i = omega arith in
-    let s : keys_from t (i - 1) ≡ keys_of (task_at t (i - 1)) ++ keys_from t i = join-rest t.n (i - 1) (λ j. keys_of (task_at t j)) (omega arith) ∙ rw e in
+    let s : keys_from t (i - 1) ≡ keys_of (task_at t (i - 1)) ++ keys_from t i = join_rest t.n (i - 1) (λ j. keys_of (task_at t j)) (omega arith) ∙ rw e in
     rw s (kept_both was more)
 
 -- ---- the waits
@@ -53,11 +53,11 @@ pub waits_none : (t : Table) → no_waits ≡ waits_from t t.n
 waits_none t = back_none (slot_wait_by t) 0 max_tasks t.n (λ l h. rw (le-ltb l t.n h))
 
 pub waits_all : (t : Table) (i : ℕ) → i ≡ 0 → waits_from t i ≡ waits_by t
-waits_all t i e = ap (waits_from t) e ∙ back-all (slot_wait_by t) 0 max_tasks
+waits_all t i e = ap (waits_from t) e ∙ back_all (slot_wait_by t) 0 max_tasks
 
 module _ (t : Table) (a : InBounds t) where
-  pub in-limits : (i : ℕ) → i < t.n → InLimits (task_at t i)
-  in-limits i h =
+  pub in_limits : (i : ℕ) → i < t.n → InLimits (task_at t i)
+  in_limits i h =
       record {
         requests = λ k q. le_trans (sum_part max_resources k (λ k. (pair_at t i k).requests) q) (a.task i h).requests;
         longest = (a.task i h).longest;
@@ -69,7 +69,7 @@ module _ (t : Table) (a : InBounds t) where
   unfolding sum_largest
   sum_is i A n k kept h q was =
       let E = keys_from t (suc i) in
-      let f = others-falling k E in
+      let f = others_falling k E in
       let few : A + length (falling E) ≤ max_kept + length (others_kept k (falling E)) = omega (
         arith,
         falling_length E,
@@ -79,7 +79,7 @@ module _ (t : Table) (a : InBounds t) where
         a.tasks_most,
       ) in
       ap (λ (l : List ℕ). sum_of (take A (others_kept k l))) (was.first ∙ ap (take max_kept) (each_falling E))
-      ∙ ap sum_of (others-take k A max_kept (falling E) few)
+      ∙ ap sum_of (others_take k A max_kept (falling E) few)
       ∙ ap (λ (l : List ℕ). sum_of (take A l)) (f ∙ ap falling (others_below_lem t i k))
 
   wait_is : (i A n : ℕ) (kept : List ℕ) → A ≤ max_alpha → KeptFrom t (suc i) n kept → wait_with (take n kept) A (task_at t i) ≡ wait_of (view_of t) A (level i)
@@ -89,10 +89,10 @@ module _ (t : Table) (a : InBounds t) where
       sum_eq max_resources _ _
       (λ k q. ap (λ (s : ℕ). only (uses v (level i) (resource k)) (v.N (level i) (resource k) * s)) (sum_is i A n k kept h q was))
 
-  pub waits-more : (i n : ℕ) (kept : List ℕ) → 0 < i → i ≤ t.n → KeptFrom t i n kept
+  pub waits_more : (i n : ℕ) (kept : List ℕ) → 0 < i → i ≤ t.n → KeptFrom t i n kept
       → (w : ℕ) → w ≡ wait_with (take n kept) (alpha_at t (i - 1)) (task_at t (i - 1))
       → (waits : List ℕ) → waits ≡ waits_from t i → set waits (i - 1) w ≡ waits_from t (i - 1)
-  waits-more i n kept h l was w e waits p =
+  waits_more i n kept h l was w e waits p =
       let s : i ≡ suc (i - 1) = omega arith in
       let g : w ≡ slot_wait_by t (i - 1) =
       e

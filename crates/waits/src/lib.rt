@@ -1,4 +1,6 @@
 // How long a task may wait under P-PCP for what lower tasks hold: request 8/12, the report's equations 13 and 14.
+#![tactic(auto)]
+
 ghost use Rattle.std.specs.Prelude.{◌≡◌};
 ghost use Rattle.waits.specs.Answers.{wait_answer, all_waits};
 
@@ -7,7 +9,7 @@ use table::{Checked, Level, Refusal, Table};
 mod longest;
 
 // What is answered of a task: its wait in microseconds; that the table has no alpha; or why there is none.
-#[derive(Drop)]
+#[derive(Clone, Copy)]
 pub enum Waiting {
     For(u64),
     NoAlpha,
@@ -15,7 +17,7 @@ pub enum Waiting {
 }
 
 // What is answered of all tasks: the refusal, if there is one; whether the table has alphas; and then the wait of each task, in microseconds.
-#[derive(Drop)]
+#[derive(Clone, Copy)]
 pub struct Waits {
     pub answer: Checked,
     pub given: bool,

@@ -13,7 +13,7 @@ use Rattle.basics.specs.Choice.{pick, only}
 use Rattle.basics.specs.Text.{bytes}
 use Rattle.basics.specs.Over.{sum_to, count_to, all_to, first_to, join_to}
 use Rattle.basics.proofs.SumLaws.{sum_le, sum_add, sum_scale}
-use Rattle.basics.proofs.JoinLaws.{join-length, join-bound}
+use Rattle.basics.proofs.JoinLaws.{join_length, join_bound}
 use Rattle.table.specs.declared.Pair.{Pair}
 use Rattle.table.specs.declared.Task.{Task}
 use Rattle.table.specs.declared.Table.{Table}
@@ -27,10 +27,10 @@ use Rattle.table.proofs.RuleLaws.{PairBounds, pair_bounds}
 use Rattle.table.proofs.Acceptance.{fine_accepted}
 use Rattle.put.specs.Text.{width, count_text, time_text}
 use Rattle.put.proofs.TextLaws.{count_length, width_few}
-use Rattle.put.proofs.TimeLaws.{time-few}
+use Rattle.put.proofs.TimeLaws.{time_few}
 use Rattle.writing.specs.Write.{use_text, pair_text, times_text, alpha_text, own_text, task_text, group_text, member_text, head_text, text_of}
 use Rattle.writing.specs.Longest.{max_cpus_text, max_task_text, max_alpha_text, max_use_text, two_digits, max_groups_text, max_long, max_uses_text, max_text, LongestText}
-use Rattle.writing.proofs.WriteLaws.{use-length, times_length, counted_length, alpha-none, alpha-some, group-length, cpus_text, cpus_length, head_of}
+use Rattle.writing.proofs.WriteLaws.{use_length, times_length, counted_length, alpha_none, alpha_some, group_length, cpus_text, cpus_length, head_of}
 
 -- ---- the `use` lines of a task
 
@@ -41,13 +41,13 @@ long x k = ltb 1_000_000 (total_of x k)
 -- 26 bytes besides K, and two more where CT is above 1,000 ms; where it is not, c is not either
 use_few : (K : ℕ) (p : Pair) (b : Bool) → ltb 1_000_000 p.total ≡ b → PairBounds p → length (use_text K p) ≤ 26 + width K + 2 * only b 1
 use_few K p b e g =
-    omega (arith, use-length K p, count_length K, count_length p.requests, width_few p.requests 4 (lit≤ tt) (omega arith), go b e)
+    omega (arith, use_length K p, count_length K, count_length p.requests, width_few p.requests 4 (lit≤ tt) (omega arith), go b e)
   where
     go : (b : Bool) → ltb 1_000_000 p.total ≡ b → length (time_text p.longest) + length (time_text p.total) ≤ 14 + 2 * only b 1
-    go true e = omega (arith, time-few p.longest 4 (lit≤ tt) (omega arith), time-few p.total 4 (lit≤ tt) (omega arith))
+    go true e = omega (arith, time_few p.longest 4 (lit≤ tt) (omega arith), time_few p.total 4 (lit≤ tt) (omega arith))
     go false e =
         let h = ltb-false 1_000_000 p.total e in
-        omega (arith, time-few p.longest 3 (lit≤ tt) (omega arith), time-few p.total 3 (lit≤ tt) (omega arith))
+        omega (arith, time_few p.longest 3 (lit≤ tt) (omega arith), time_few p.total 3 (lit≤ tt) (omega arith))
 
 pair_few : (x : Task) (k : ℕ) → PairBounds (pair_of x k) → length (pair_text x k) ≤ 26 + width (suc k) + 2 * only (long x k) 1
 unfolding pair_text
@@ -80,7 +80,7 @@ uses_few x g =
     let short : ℕ → ℕ = λ k. 26 + width (suc k) in
     omega (
       arith,
-      join-length max_resources (pair_text x),
+      join_length max_resources (pair_text x),
       sum_le max_resources (λ k. length (pair_text x k)) (λ k. short k + 2 * one k) (λ k h. pair_few x k (pair_bounds (pair_of x k) (g.pair k h))),
       sum_add max_resources short (λ k. 2 * one k),
       sum_scale max_resources 2 one,
@@ -95,8 +95,8 @@ alpha_few : (A : ℕ) → A ≤ max_alpha → length (alpha_text A) ≤ max_alph
 alpha_few A h = go (ℕ_discrete A 0)
   where
     go : Dec (A ≡ 0) → length (alpha_text A) ≤ max_alpha_text
-    go (yes e) = rw (alpha-none A e) (omega arith)
-    go (no e) = rw (alpha-some A e) (omega (arith, counted_length (bytes "alpha") A, count_length A, width_few A 2 (lit≤ tt) (omega arith)))
+    go (yes e) = rw (alpha_none A e) (omega arith)
+    go (no e) = rw (alpha_some A e) (omega (arith, counted_length (bytes "alpha") A, count_length A, width_few A 2 (lit≤ tt) (omega arith)))
 
 task_few : (x : Task) → GoodTask x → length (task_text x) ≤ max_task_text + max_alpha_text + max_uses_text
 unfolding task_text
@@ -108,9 +108,9 @@ task_few x g =
       length-append (times_text x) (alpha_text x.alpha),
       alpha_few x.alpha g.alpha_most,
       times_length x,
-      time-few x.period 4 (lit≤ tt) (omega arith),
-      time-few x.run 4 (lit≤ tt) (omega arith),
-      time-few x.deadline 4 (lit≤ tt) (omega arith),
+      time_few x.period 4 (lit≤ tt) (omega arith),
+      time_few x.run 4 (lit≤ tt) (omega arith),
+      time_few x.deadline 4 (lit≤ tt) (omega arith),
       uses_few x g,
     )
 
@@ -123,7 +123,7 @@ member_few groups k h = go (ltb 0 (get_or groups k 0))
     G = get_or groups k 0
 
     go : (b : Bool) → length (pick b (group_text G (suc k)) []) ≤ 10 + width (suc k)
-    go true = omega (arith, group-length G (suc k), count_length G, count_length (suc k), width_few G 2 (lit≤ tt) (omega arith))
+    go true = omega (arith, group_length G (suc k), count_length G, count_length (suc k), width_few G 2 (lit≤ tt) (omega arith))
     go false = omega arith
 
 group_lines : sum_to max_resources (λ k. 10 + width (suc k)) ≡ max_groups_text
@@ -139,7 +139,7 @@ head_few t a =
       cpus_length t.cpus,
       count_length t.cpus,
       width_few t.cpus 2 (lit≤ tt) (omega (arith, a.cpus_most)),
-      join-length max_resources (member_text t.groups),
+      join_length max_resources (member_text t.groups),
       sum_le max_resources (λ k. length (member_text t.groups k)) (λ k. 10 + width (suc k)) (λ k h. member_few t.groups k (a.groups_most k h)),
       group_lines,
     )
@@ -153,7 +153,7 @@ text_most t e =
       a.tasks_most,
       length-append (head_of t) (join_to t.n (λ i. task_text (task_at t i))),
       head_few t a,
-      join-bound t.n (max_task_text + max_alpha_text + max_uses_text) (λ i. task_text (task_at t i)) (λ i h. task_few (task_at t i) (a.task i h)),
+      join_bound t.n (max_task_text + max_alpha_text + max_uses_text) (λ i. task_text (task_at t i)) (λ i h. task_few (task_at t i) (a.task i h)),
     )
 
 -- ---- a table with the longest text

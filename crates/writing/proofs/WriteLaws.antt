@@ -12,12 +12,12 @@ use lib.Dec.{ltb}
 use Rattle.basics.specs.Choice.{pick}
 use Rattle.basics.specs.Over.{join_to}
 use Rattle.basics.specs.Text.{bytes, ending, line_of}
-use Rattle.basics.proofs.JoinLaws.{join-none, join_more, join-room}
+use Rattle.basics.proofs.JoinLaws.{join_none, join_more, join_room}
 use Rattle.basics.proofs.FillLaws.{rest_at, back_at, Filled, filled_part}
 use Rattle.put.specs.Text.{count_text, time_text}
 use Rattle.put.proofs.PlaceLaws.{filled_within}
 use Rattle.put.proofs.TextLaws.{count_small}
-use Rattle.put.proofs.TimeLaws.{time-length}
+use Rattle.put.proofs.TimeLaws.{time_length}
 use Rattle.table.specs.declared.Pair.{Pair}
 use Rattle.table.specs.declared.Task.{Task}
 use Rattle.table.specs.declared.Table.{Table}
@@ -28,21 +28,21 @@ use Rattle.writing.specs.Write.{use_text, times_text, alpha_text, task_text, gro
 
 module _ (h : List ℕ) (f : ℕ → List ℕ) where
   pub none_yet : h ++ join_to 0 f ≡ h
-  none_yet = rw (join-none, append-nil)
+  none_yet = rw (join_none, append-nil)
 
   pub one_more_lem : (i : ℕ) → h ++ join_to (i + 1) f ≡ h ++ join_to i f ++ f i
   one_more_lem i = rw (join_more, append_assoc)
 
-  pub more-length : (i : ℕ) → length (h ++ join_to (i + 1) f) ≡ length (h ++ join_to i f) + length (f i)
-  more-length i = ap length (one_more_lem i) ∙ length-append (h ++ join_to i f) (f i)
+  pub more_length : (i : ℕ) → length (h ++ join_to (i + 1) f) ≡ length (h ++ join_to i f) + length (f i)
+  more_length i = ap length (one_more_lem i) ∙ length-append (h ++ join_to i f) (f i)
 
-  pub filled-first : {o o₁ : List ℕ} {a : ℕ} → Filled o o₁ h a → Filled o o₁ (h ++ join_to 0 f) a
-  filled-first q = rw none_yet q
+  pub filled_first : {o o₁ : List ℕ} {a : ℕ} → Filled o o₁ h a → Filled o o₁ (h ++ join_to 0 f) a
+  filled_first q = rw none_yet q
 
   -- i texts are written: there is room for the next if there is for all n
   module _ {o o₁ : List ℕ} {a : ℕ} (i : ℕ) (q : Filled o o₁ (h ++ join_to i f) a) where
-    pub next-room : (n : ℕ) → i < n → length (h ++ join_to n f) ≤ length o → a + length (f i) ≤ length o₁
-    next-room n l z = omega (arith, q.long, q.kept, length-append h (join_to i f), length-append h (join_to n f), join-room n i f l)
+    pub next_room : (n : ℕ) → i < n → length (h ++ join_to n f) ≤ length o → a + length (f i) ≤ length o₁
+    next_room n l z = omega (arith, q.long, q.kept, length-append h (join_to i f), length-append h (join_to n f), join_room n i f l)
 
     pub filled_next : {ys : List ℕ} {k : ℕ} → length ys ≡ length (rest_at o₁ a) → (k ≡ length (f i)) × (ys ≡ f i ++ drop k (rest_at o₁ a))
         → Filled o (back_at o₁ a ys) (h ++ join_to (i + 1) f) (a + k)
@@ -60,40 +60,40 @@ ending_length [] = refl
 ending_length (w ∷ ws) = omega (arith, length-append w (ending ws), ending_length ws)
 
 module _ (K : ℕ) (p : Pair) where
-  pub use-length : length (use_text K p) ≡ 8 + length (count_text K) + length (count_text p.requests) + length (time_text p.longest) + length (time_text p.total)
+  pub use_length : length (use_text K p) ≡ 8 + length (count_text K) + length (count_text p.requests) + length (time_text p.longest) + length (time_text p.total)
   unfolding use_text
-  use-length = omega (arith, ending_length (count_text K ∷ count_text p.requests ∷ time_text p.longest ∷ time_text p.total ∷ []))
+  use_length = omega (arith, ending_length (count_text K ∷ count_text p.requests ∷ time_text p.longest ∷ time_text p.total ∷ []))
 
-  pub use-most : K < 4_294_967_296 → p.requests < 4_294_967_296 → p.longest < 4_294_967_296 → p.total < 4_294_967_296 → length (use_text K p) ≤ 50
-  use-most k n c ct = omega (arith, use-length, count_small K k, count_small p.requests n, time-length p.longest c, time-length p.total ct)
+  pub use_most : K < 4_294_967_296 → p.requests < 4_294_967_296 → p.longest < 4_294_967_296 → p.total < 4_294_967_296 → length (use_text K p) ≤ 50
+  use_most k n c ct = omega (arith, use_length, count_small K k, count_small p.requests n, time_length p.longest c, time_length p.total ct)
 
 module _ (x : Task) where
   pub times_length : length (times_text x) ≡ 8 + length (time_text x.period) + length (time_text x.run) + length (time_text x.deadline)
   times_length = omega (arith, ending_length (time_text x.period ∷ time_text x.run ∷ time_text x.deadline ∷ []))
 
-  pub times-most : x.period < 4_294_967_296 → x.run < 4_294_967_296 → x.deadline < 4_294_967_296 → length (times_text x) ≤ 41
-  times-most t c d = omega (arith, times_length, time-length x.period t, time-length x.run c, time-length x.deadline d)
+  pub times_most : x.period < 4_294_967_296 → x.run < 4_294_967_296 → x.deadline < 4_294_967_296 → length (times_text x) ≤ 41
+  times_most t c d = omega (arith, times_length, time_length x.period t, time_length x.run c, time_length x.deadline d)
 
 -- a line of a word and a count
 pub counted_length : (word : List ℕ) (n : ℕ) → length (word ++ ending (count_text n ∷ [])) ≡ length word + 2 + length (count_text n)
 counted_length word n = length-append word (ending (count_text n ∷ [])) ∙ omega (arith, ending_length (count_text n ∷ []))
 
 module _ (A : ℕ) where
-  pub alpha-none : A ≡ 0 → alpha_text A ≡ []
+  pub alpha_none : A ≡ 0 → alpha_text A ≡ []
   unfolding alpha_text
-  alpha-none e = rw (le-ltb 0 A (omega arith))
+  alpha_none e = rw (le-ltb 0 A (omega arith))
 
-  pub alpha-some : (A ≡ 0 → ⊥) → alpha_text A ≡ line_of "alpha" (count_text A ∷ [])
+  pub alpha_some : (A ≡ 0 → ⊥) → alpha_text A ≡ line_of "alpha" (count_text A ∷ [])
   unfolding alpha_text
-  alpha-some n = rw (lt-ltb 0 A (omega arith))
+  alpha_some n = rw (lt-ltb 0 A (omega arith))
 
 module _ (G K : ℕ) where
-  pub group-length : length (group_text G K) ≡ 8 + length (count_text G) + length (count_text K)
+  pub group_length : length (group_text G K) ≡ 8 + length (count_text G) + length (count_text K)
   unfolding group_text
-  group-length = omega (arith, ending_length (count_text G ∷ count_text K ∷ []))
+  group_length = omega (arith, ending_length (count_text G ∷ count_text K ∷ []))
 
   pub group_most : G < 4_294_967_296 → K < 4_294_967_296 → length (group_text G K) ≤ 28
-  group_most g k = omega (arith, group-length, count_small G g, count_small K k)
+  group_most g k = omega (arith, group_length, count_small G g, count_small K k)
 
 -- the first line
 abbrev pub cpus_text : ℕ → List ℕ
@@ -114,17 +114,17 @@ module _ (t : Table) where
 -- ---- the line of a pair
 
 module _ (k : ℕ) (p : Pair) where
-  pub pair-unused : ltb 0 p.requests ≡ false → pick (ltb 0 p.requests) (use_text (suc k) p) [] ≡ []
-  pair-unused e = rw e
+  pub pair_unused : ltb 0 p.requests ≡ false → pick (ltb 0 p.requests) (use_text (suc k) p) [] ≡ []
+  pair_unused e = rw e
 
-  pub pair-used : ltb 0 p.requests ≡ true → pick (ltb 0 p.requests) (use_text (suc k) p) [] ≡ use_text (k + 1) p
-  pair-used e = rw (e, add-one k)
+  pub pair_used : ltb 0 p.requests ≡ true → pick (ltb 0 p.requests) (use_text (suc k) p) [] ≡ use_text (k + 1) p
+  pair_used e = rw (e, add-one k)
 
 -- ---- the line of a resource
 
 module _ (k G : ℕ) where
-  pub member-none : G ≡ 0 → pick (ltb 0 G) (group_text G (suc k)) [] ≡ []
-  member-none e = rw (le-ltb 0 G (omega arith))
+  pub member_none : G ≡ 0 → pick (ltb 0 G) (group_text G (suc k)) [] ≡ []
+  member_none e = rw (le-ltb 0 G (omega arith))
 
-  pub member-some : (G ≡ 0 → ⊥) → pick (ltb 0 G) (group_text G (suc k)) [] ≡ group_text G (k + 1)
-  member-some n = rw (lt-ltb 0 G (omega arith), add-one k)
+  pub member_some : (G ≡ 0 → ⊥) → pick (ltb 0 G) (group_text G (suc k)) [] ≡ group_text G (k + 1)
+  member_some n = rw (lt-ltb 0 G (omega arith), add-one k)

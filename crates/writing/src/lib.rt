@@ -1,4 +1,6 @@
 // A table to a listing.
+#![tactic(auto)]
+
 ghost use Rattle.std.specs.Prelude.{◌≡◌, length};
 ghost use Rattle.writing.specs.Write.{write_answer, written};
 ghost use Rattle.writing.specs.Longest.{max_text};

@@ -50,8 +50,8 @@ use denote.Lend.{Held}
 use denote.Index.{row, place_is, elem_out, elem_put, opens_slice, closes_slice}
 use denote.Signature.{plain}
 use denote.Steps.{only, owned, facts, heard, nothing}
-use denote.Struct.Laws as lL
-use denote.Enum.Laws as eL
+use denote.Struct.Laws as l_L
+use denote.Enum.Laws as e_L
 use denote.Triple.Entry.{on_entry}
 use denote.Triple.Spec.{Meets, triple_of}
 use denote.Triple.Statement.{Contract, Triple}
@@ -66,11 +66,11 @@ use Rattle.table.specs.declared.Table.{Table}
 use Rattle.table.specs.declared.Checked.TheVariants.{Fine}
 use Rattle.table.specs.Rules.{table_fault}
 use Rattle.basics.specs.Over.{row_to}
-use Rattle.basics.proofs.RowLaws.{over-length, over-more, over_none}
+use Rattle.basics.proofs.RowLaws.{over_length, over_more, over_none}
 use Rattle.theory.specs.Groups.{InBounds}
 use Rattle.theory.specs.Tables.{view_of}
 use Rattle.analysis.specs.Answers.{analysis_fault, record_count, record_by, record_of, table_read, analysed}
-use Rattle.analysis.proofs.RowLaws.{count_room, count_most, count-asks, row_last, asks_read, record-read}
+use Rattle.analysis.proofs.RowLaws.{count_room, count_most, count_asks, row_last, asks_read, record_read}
 use Rattle.analysis.specs.contracts.Record as T
 use Rattle.analysis.proofs.Record.TheLaws as t'
 use Rattle.table.specs.contracts.Table as B
@@ -113,7 +113,7 @@ abbrev slice : Ty
 slice = slice_ty (ty_ref (named 0) mut (pointee (T.the_row).written))
 
 abbrev table-val : Table → Val
-table-val = lL.val B.the_type b'.the_laws
+table-val = l_L.val B.the_type b'.the_laws
 
 module _ {M : Type 1} {𝓤 : Ura M} (𝓛 : Logic 𝓤) (mem : Memory → SProp 𝓤) (run : Routine → Fun 𝓤) where
   -- the contracts that the proof cites
@@ -175,7 +175,7 @@ module _ {M : Type 1} {𝓤 : Ura M} (𝓛 : Logic 𝓤) (mem : Memory → SProp
   zs i = row_to i (record_of t allowance) ++ past i ys
 
   zs-length : (i : ℕ) → i ≤ length ys → length (zs i) ≡ length ys
-  zs-length i l = over-length (record_of t allowance) i ys l
+  zs-length i l = over_length (record_of t allowance) i ys l
 
   -- what `analyse` ensures, at the answer ans and the last list l
   abbrev Right : Checked → List Record → Type 0
@@ -195,7 +195,7 @@ module _ {M : Type 1} {𝓤 : Ura M} (𝓛 : Logic 𝓤) (mem : Memory → SProp
       nothing ! $ move ! (3 ∷ 0 ∷ []) $ join ! $ frame ! $
       fjoin ! $ pure_i ! (mut_slice_at T.the_row (x l) (s ∷ [])) (tt, (tt, tt)) (ap (λ (m : ℕ). slice_val (b, o) m ∷ []) (sym e), subst (Room T.the_row) (sym e) room) $ fjoin ! $
       nothing ! $ move ! (1 ∷ 0 ∷ []) $ fjoin ! $ nothing ! $ fjoin ! $ nothing ! $ fjoin ! $ frame ! $
-      owned ! e_reads.the_row (Is e_reads.the_row) (eL.makes e_reads.the_type e'.the_plain 𝓛) ans (w ∷ []) is $ done !
+      owned ! e_reads.the_row (Is e_reads.the_row) (e_L.makes e_reads.the_type e'.the_plain 𝓛) ans (w ∷ []) is $ done !
 
   -- what each callee's triple binds outside, and that the caller has what it asks
   abbrev to-todo : ℕ → (Todo 𝓛 mem run).Ghost
@@ -203,21 +203,21 @@ module _ {M : Type 1} {𝓤 : Ura M} (𝓛 : Logic 𝓤) (mem : Memory → SProp
 
   goes-todo : (i : ℕ) → i < 2 ^ 64 → ent 𝓤 (emp 𝓤) ((Todo 𝓛 mem run).pre (to-todo i))
   goes-todo i fits =
-      qed 𝓛 [] ∵ nothing ! $ owned ! usize (Is usize) (uint_Makes 𝓛 w64) i _ (refl, fits) $ fjoin ! $ owned ! u32 (Is u32) (uint_Makes 𝓛 w32) allowance _ (refl, allowance-fits) $ fjoin ! $ owned ! B.the_row (Is B.the_row) (lL.makes B.the_type b'.the_plain 𝓛) t (table-val t ∷ []) t-is $ fjoin ! $
+      qed 𝓛 [] ∵ nothing ! $ owned ! usize (Is usize) (uint_Makes 𝓛 w64) i _ (refl, fits) $ fjoin ! $ owned ! u32 (Is u32) (uint_Makes 𝓛 w32) allowance _ (refl, allowance-fits) $ fjoin ! $ owned ! B.the_row (Is B.the_row) (l_L.makes B.the_type b'.the_plain 𝓛) t (table-val t ∷ []) t-is $ fjoin ! $
       nothing ! $ join ! $ nothing ! $ move ! (1 ∷ 0 ∷ []) $ done !
 
   abbrev to_read : (TableRead 𝓛 mem run).Ghost
   to_read = ((tt, tt, tt, (t, tt), (table-val t ∷ [], tt)), tt)
 
   goes-read : ent 𝓤 (emp 𝓤) ((TableRead 𝓛 mem run).pre to_read)
-  goes-read = qed 𝓛 [] ∵ nothing ! $ owned ! B.the_row (Is B.the_row) (lL.makes B.the_type b'.the_plain 𝓛) t (table-val t ∷ []) t-is $ fjoin ! $ nothing ! $ join ! $ nothing ! $ move ! (1 ∷ 0 ∷ []) $ done !
+  goes-read = qed 𝓛 [] ∵ nothing ! $ owned ! B.the_row (Is B.the_row) (l_L.makes B.the_type b'.the_plain 𝓛) t (table-val t ∷ []) t-is $ fjoin ! $ nothing ! $ join ! $ nothing ! $ move ! (1 ∷ 0 ∷ []) $ done !
 
   abbrev to-judge : ℕ → (Judge 𝓛 mem run).Ghost
   to-judge i = ((tt, tt, tt, (t, (allowance, (i, tt))), (table-val t ∷ [], (vint w32 allowance ∷ [], (vint w64 i ∷ [], tt)))), tt)
 
   goes-judge : (i : ℕ) → i < 2 ^ 64 → ent 𝓤 (emp 𝓤) ((Judge 𝓛 mem run).pre (to-judge i))
   goes-judge i fits =
-      qed 𝓛 [] ∵ nothing ! $ owned ! usize (Is usize) (uint_Makes 𝓛 w64) i _ (refl, fits) $ fjoin ! $ owned ! u32 (Is u32) (uint_Makes 𝓛 w32) allowance _ (refl, allowance-fits) $ fjoin ! $ owned ! B.the_row (Is B.the_row) (lL.makes B.the_type b'.the_plain 𝓛) t (table-val t ∷ []) t-is $ fjoin ! $
+      qed 𝓛 [] ∵ nothing ! $ owned ! usize (Is usize) (uint_Makes 𝓛 w64) i _ (refl, fits) $ fjoin ! $ owned ! u32 (Is u32) (uint_Makes 𝓛 w32) allowance _ (refl, allowance-fits) $ fjoin ! $ owned ! B.the_row (Is B.the_row) (l_L.makes B.the_type b'.the_plain 𝓛) t (table-val t ∷ []) t-is $ fjoin ! $
       nothing ! $ join ! $ nothing ! $ move ! (1 ∷ 0 ∷ []) $ done !
 
   -- of the table m that is read, at v
@@ -227,17 +227,17 @@ module _ {M : Type 1} {𝓤 : Ura M} (𝓛 : Logic 𝓤) (mem : Memory → SProp
   -- `record_at` has a `requires`
   goes-record : (m : Table) (v : Val) (i : ℕ) → Is B.the_row m (v ∷ []) → i < 2 ^ 64 → InBounds m × (i < m.n) → ent 𝓤 (emp 𝓤) ((RecordAt 𝓛 mem run).pre (to-record m v i))
   goes-record m v i m-is fits asked =
-      qed 𝓛 [] ∵ says ! asked $ nothing ! $ owned ! usize (Is usize) (uint_Makes 𝓛 w64) i _ (refl, fits) $ fjoin ! $ owned ! u32 (Is u32) (uint_Makes 𝓛 w32) allowance _ (refl, allowance-fits) $ fjoin ! $ owned ! B.the_row (Is B.the_row) (lL.makes B.the_type b'.the_plain 𝓛) m (v ∷ []) m-is $ fjoin ! $
+      qed 𝓛 [] ∵ says ! asked $ nothing ! $ owned ! usize (Is usize) (uint_Makes 𝓛 w64) i _ (refl, fits) $ fjoin ! $ owned ! u32 (Is u32) (uint_Makes 𝓛 w32) allowance _ (refl, allowance-fits) $ fjoin ! $ owned ! B.the_row (Is B.the_row) (l_L.makes B.the_type b'.the_plain 𝓛) m (v ∷ []) m-is $ fjoin ! $
       nothing ! $ done !
 
   typed : (r : Record) (w : Val) → Is T.the_row r (w ∷ []) → Holds (has_ty t'.mir w) × WT w
-  typed r w is = ((lL.lawful T.the_type t'.the_laws 𝓛).typed r (w ∷ []) is).0
+  typed r w is = ((l_L.lawful T.the_type t'.the_laws 𝓛).typed r (w ∷ []) is).0
 
   typed-answer : (ans : Checked) (w : Val) → Is e_reads.the_row ans (w ∷ []) → Holds (has_ty e'.mir w) × WT w
-  typed-answer ans w is = ((eL.lawful e_reads.the_type e'.the_laws 𝓛 tt).typed ans (w ∷ []) is).0
+  typed-answer ans w is = ((e_L.lawful e_reads.the_type e'.the_laws 𝓛 tt).typed ans (w ∷ []) is).0
 
   typed-table : (m : Table) (v : Val) → Is B.the_row m (v ∷ []) → Holds (has_ty b'.mir v) × WT v
-  typed-table m v is = ((lL.lawful B.the_type b'.the_laws 𝓛).typed m (v ∷ []) is).0
+  typed-table m v is = ((l_L.lawful B.the_type b'.the_laws 𝓛).typed m (v ∷ []) is).0
 
   -- the loop's variant
   abbrev Upto : Type 0
@@ -301,21 +301,21 @@ module _ {M : Type 1} {𝓤 : Ura M} (𝓛 : Logic 𝓤) (mem : Memory → SProp
           assigns ! (bin ! (load ! (from ! (fld ! refl (stop !))) (look_in ! 20 (sub ! 0 refl (whole !)))) (load ! (from ! (stop !)) (look ! 6 refl)) tt) (from ! (stop !)) (init ! 4 refl (tt, tt)) $
           rewrite ! 4 (λ (p : ℕ). ‵ (fat full_share ty_ptr l₁₁ 0 (vptr b p))) (sym (place_is 16 o i.0)) refl $
           -- the store
-          elem_out ! T.the_row (Is T.the_row) (shows 𝓛 T.the_row) (lL.vals T.the_type t'.the_laws) (lL.tells T.the_type t'.the_laws) full_share (zs i.0) i.0 r b o within (λ _.
+          elem_out ! T.the_row (Is T.the_row) (shows 𝓛 T.the_row) (l_L.vals T.the_type t'.the_laws) (l_L.tells T.the_type t'.the_laws) full_share (zs i.0) i.0 r b o within (λ _.
           -- [row[i]; what it owns; the others; the open borrow; obs; auth; _11; …; _10; …; _9; …]
           assigns ! (of_opd ! (load ! (from ! (stop !)) (look ! 10 refl))) (from ! (hop ! (look ! 6 refl) (stop !))) (store_raw ! 0 refl (typed r w is)) $
-          move ! (1 ∷ []) $ drop ! $ owned ! T.the_row (Is T.the_row) (lL.makes T.the_type t'.the_plain 𝓛) (record_of t allowance i.0) (w ∷ []) (subst (λ (y : Record). Is T.the_row y (w ∷ [])) (is-record ∙ record-read t i.0 is_read allowance asked.0) is) $
+          move ! (1 ∷ []) $ drop ! $ owned ! T.the_row (Is T.the_row) (l_L.makes T.the_type t'.the_plain 𝓛) (record_of t allowance i.0) (w ∷ []) (subst (λ (y : Record). Is T.the_row y (w ∷ [])) (is-record ∙ record_read t i.0 is_read allowance asked.0) is) $
           move ! (1 ∷ 0 ∷ []) $ elem_put ! T.the_row full_share (zs i.0) i.0 (record_of t allowance i.0) (w ∷ []) b o within $
           assigns_last ! (bin ! (load ! (from ! (stop !)) (look ! 12 refl)) (lit ! tt) (record { fits = next_fits })) (from ! (stop !)) (store ! 12 refl (tt, record { fits = next_fits })) $
           forget ! 4 refl $ forget ! 6 refl $ forget ! 8 refl $ forget ! 10 refl $
-          rewrite ! 0 (λ (l : List Record). ‵ (row T.the_row full_share l b o)) (over-more (record_of t allowance) i.0 ys (omega (arith, less, N-room))) refl $
+          rewrite ! 0 (λ (l : List Record). ‵ (row T.the_row full_share l b o)) (over_more (record_of t allowance) i.0 ys (omega (arith, less, N-room))) refl $
           again ! Nearer (At v) i (i.0 + 1, add-one-le less) (add-one-dec N i.0 less))))))
         where
           less : i.0 < N
           less = ltb-true i.0 N e
 
           asked : (table_fault t ≡ Fine) × (i.0 < t.n)
-          asked = count-asks t allowance (length ys) i.0 less
+          asked = count_asks t allowance (length ys) i.0 less
 
           small : i.0 < 32
           small = omega (arith, less, N-most)
@@ -394,7 +394,7 @@ module _ {M : Type 1} {𝓤 : Ura M} (𝓛 : Logic 𝓤) (mem : Memory → SProp
   analyse-walks : (𝓣 : Tables 𝓤 H) → FmC 𝓤 H 𝓛.laws 𝓣.C → Triple 𝓤 (𝓣.C #analysis·todo) (Todo 𝓛 mem run) → Triple 𝓤 (𝓣.C #analysis·table-read) (TableRead 𝓛 mem run) → Triple 𝓤 (𝓣.C #analysis·judge) (Judge 𝓛 mem run) → Triple 𝓤 (𝓣.C #analysis·record-at) (RecordAt 𝓛 mem run)
       → Walks 𝓛 analyse.ended stayed (WpFn 𝓤 H 𝓣.C 𝓣.Λ code.function) (analyse.clauses 𝓛 mem run)
   analyse-walks 𝓣 fm known-todo known_read known-judge known-record = walked 𝓛 analyse.ended stayed (analyse.clauses 𝓛 mem run) (WpFn 𝓤 H 𝓣.C 𝓣.Λ code.function)
-      (λ κs. (lL.vals B.the_type b'.the_laws, (uint_vals w32, (mut_slice_vals, tt)))) (λ κs. (lL.tells B.the_type b'.the_laws, (uint_Tells w32, (mut_slice_Tells (named 0) κs.0 T.the_row, tt))))
+      (λ κs. (l_L.vals B.the_type b'.the_laws, (uint_vals w32, (mut_slice_vals, tt)))) (λ κs. (l_L.tells B.the_type b'.the_laws, (uint_Tells w32, (mut_slice_Tells (named 0) κs.0 T.the_row, tt))))
       (λ κs qs bounds a g are. via 𝓤 _ (fst∗ 𝓤 _ (emp 𝓤))
       (walk 𝓛 mem run κs.0 qs.0 a.0 a.1.0 a.1.1.0.ref_ptr.0 a.1.1.0.ref_ptr.1 a.1.1.0.ghost_name a.1.1.0.now are.0 are.1.0.1 are.1.1.0.0.1 𝓣 fm known-todo known_read known-judge known-record))
 

@@ -6,7 +6,7 @@ use native.Mathlib.Omega.{arith}
 use lib.ListN.{length, drop, set}
 use borrow.Author.Rules.{rules}
 use Rattle.basics.specs.Over.{row_to}
-use Rattle.basics.proofs.RowLaws.{over_none, over-more}
+use Rattle.basics.proofs.RowLaws.{over_none, over_more}
 use Rattle.table.specs.declared.Table.{Table}
 use Rattle.table.specs.declared.Checked.{Checked}
 use Rattle.table.specs.declared.Checked.TheVariants.{Fine}
@@ -15,8 +15,8 @@ use Rattle.table.specs.Faults.{◌then◌}
 use Rattle.theory.specs.Tables.{view_of}
 use Rattle.theory.specs.Merge.{merged}
 use Rattle.analysis.specs.Answers.{allowance_fault, row_fault, analysis_fault, record_by}
-use Rattle.analysis.proofs.RowLaws.{fits, row_fine, row-refused}
-use Rattle.merging.proofs.ReadLaws.{read-own, read-merged, read-asks}
+use Rattle.analysis.proofs.RowLaws.{fits, row_fine, row_refused}
+use Rattle.merging.proofs.ReadLaws.{read_own, read_merged, read_asks}
 use Rattle.analysis.proofs.analyse_all.Statement.{statement}
 use Rattle.analysis.proofs.analyse_all.Tie as tie
 
@@ -35,7 +35,7 @@ own : (c : tie.After-judged invariant-loop decreases-loop) → let a = c.before.
 unfolding analysis_fault
 own c =
     let a = c.before.before.args in
-    c.judged.ensures ∙ ap (λ (own : Checked). own then allowance_fault a.allowance then row_fault a.t.n max_tasks) (read-own a.t c.before.merge.ensures)
+    c.judged.ensures ∙ ap (λ (own : Checked). own then allowance_fault a.allowance then row_fault a.t.n max_tasks) (read_own a.t c.before.merge.ensures)
 
 answered : (c : tie.After-judged invariant-loop decreases-loop) → let s = c.before.before in c.judged.result ≡ analysis_fault s.args.t s.args.allowance (length s.args.rows)
 answered c = let s = c.before.before in own c ∙ ap (analysis_fault s.args.t s.args.allowance) (sym (long s))
@@ -49,7 +49,7 @@ module _ (c : tie.After-enum-told invariant-loop decreases-loop) where
 
   -- the table that is read has no more tasks than there is room for
   read : c.before.before.before.merge.result.table ≡ merged s.args.t
-  read = read-merged s.args.t c.before.before.before.merge.ensures (fits _ _ _ fine).0
+  read = read_merged s.args.t c.before.before.before.merge.ensures (fits _ _ _ fine).0
 
   tasks : c.before.before.before.merge.result.table.n ≡ s.args.t.n
   tasks = ap (λ (t : Table). t.n) read
@@ -60,7 +60,7 @@ module _ (c : tie.After-enum-told invariant-loop decreases-loop) where
 returns : tie.Need-returns invariant-loop decreases-loop
 returns c =
     let j = c.before.before in
-    (own j, row-refused _ _ _ (sym (answered j) ∙ c.enum-told2.given.1))
+    (own j, row_refused _ _ _ (sym (answered j) ∙ c.enum-told2.given.1))
 
 loop-holds : tie.Need-loop-init invariant-loop decreases-loop
 loop-holds c = (omega arith, over_none _ _)
@@ -68,7 +68,7 @@ loop-holds c = (omega arith, over_none _ _)
 record-at-requires : tie.Need-record-at-requires invariant-loop decreases-loop
 record-at-requires c κs =
     let e = c.before.before.before in
-    read-asks (s e).args.t e.before.before.before.merge.ensures (fits _ _ _ (fine e)).0 (omega (arith, c.loop-test.true, tasks e))
+    read_asks (s e).args.t e.before.before.before.merge.ensures (fits _ _ _ (fine e)).0 (omega (arith, c.loop-test.true, tasks e))
 
 mul-filled : tie.Need-overflow-mul-filled invariant-loop decreases-loop
 mul-filled c = let e = c.before.before.before.before in omega (arith, few e, tasks e)
@@ -82,7 +82,7 @@ loop-again c =
     let e = l.before.before in
     let m = e.before.before.before.merge.result.table in
     let k = l.loop.k in
-    (omega arith, (λ j. set (l.loop.invariant.1 j) k (c.record-at.ensures j)) ∙ over-more (record_by (view_of m) (s e).args.allowance) k (s e).args.rows (omega (arith, few e, tasks e, long (s e))))
+    (omega arith, (λ j. set (l.loop.invariant.1 j) k (c.record-at.ensures j)) ∙ over_more (record_by (view_of m) (s e).args.allowance) k (s e).args.rows (omega (arith, few e, tasks e, long (s e))))
 
 returns-2 : tie.Need-returns-2 invariant-loop decreases-loop
 returns-2 c =

@@ -11,7 +11,7 @@ use Rattle.theory.specs.Tables.{view_of, counted_by, counted_in}
 use Rattle.analysis.specs.declared.Answer.TheVariants.{Known}
 use Rattle.analysis.specs.Answers.{allowance_fault, bound_fault, bound_of}
 use Rattle.analysis.proofs.RowLaws.{asked}
-use Rattle.merging.proofs.ReadLaws.{read-own, read-merged, read-asks}
+use Rattle.merging.proofs.ReadLaws.{read_own, read_merged, read_asks}
 use borrow.Author.Rules.{rules}
 use Rattle.analysis.proofs.bound.Statement.{statement}
 use Rattle.analysis.proofs.bound.Tie as tie
@@ -21,7 +21,7 @@ said : (c : tie.After-judge-task) → let a = c.before.before.args in c.judge-ta
 unfolding bound_fault
 said c =
     let a = c.before.before.args in
-    c.judge-task.ensures ∙ ap (λ (own : Checked). own then asked_fault a.t.n a.task then allowance_fault a.allowance) (read-own a.t c.before.merge.ensures)
+    c.judge-task.ensures ∙ ap (λ (own : Checked). own then asked_fault a.t.n a.task then allowance_fault a.allowance) (read_own a.t c.before.merge.ensures)
 
 returns : tie.Need-returns
 unfolding bound_of
@@ -38,7 +38,7 @@ counted-at-requires c κs =
     let e = c.before.before in
     let k = e.before.before.before in
     let f = asked _ _ _ (fine e) in
-    read-asks k.before.args.t k.merge.ensures f.0 (omega (arith, f.1, f.2))
+    read_asks k.before.args.t k.merge.ensures f.0 (omega (arith, f.1, f.2))
 
 -- a task's number is one more than its slot
 returns-2 : tie.Need-returns-2
@@ -52,7 +52,7 @@ returns-2 c =
     rw (fine e)
     (ap Known
     (c.counted-at.ensures
-    ∙ ap (λ (m : Table). counted_by (view_of m) a.allowance (record { 0 = suc (a.task.0 - 1) })) (read-merged a.t k.merge.ensures f.0)
+    ∙ ap (λ (m : Table). counted_by (view_of m) a.allowance (record { 0 = suc (a.task.0 - 1) })) (read_merged a.t k.merge.ensures f.0)
     ∙ ap (λ (n : ℕ). counted_in a.t a.allowance (record { 0 = n })) slot))
 
 pub bound-spec : {M : Type 1} → statement M

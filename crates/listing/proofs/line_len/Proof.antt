@@ -4,7 +4,7 @@ use mathlib.Core.Path.{◌≡◌}
 use native.Mathlib.Omega.{arith}
 use lib.ListN.{length, drop}
 use Rattle.listing.specs.FirstLine.{line}
-use Rattle.listing.proofs.LineLaws.{line-end, line-more, line-none}
+use Rattle.listing.proofs.LineLaws.{line_end, line_more, line_none}
 use Rattle.listing.proofs.line_len.Statement.{statement}
 use Rattle.listing.proofs.line_len.Tie as tie
 
@@ -23,7 +23,7 @@ shared-slice-read-if1 c = omega arith
 returns : tie.Need-returns invariant-loop decreases-loop
 returns c =
     let l = c.before.before.before in
-    omega (arith, line-end l.before.args.s.now l.loop.i c.before.before.loop-test.true c.if1.true)
+    omega (arith, line_end l.before.args.s.now l.loop.i c.before.before.loop-test.true c.if1.true)
 
 add-i : tie.Need-overflow-add-i invariant-loop decreases-loop
 add-i c = omega arith
@@ -34,10 +34,10 @@ loop-less c = omega arith
 loop-again : tie.Need-loop-preserved invariant-loop decreases-loop
 loop-again c =
     let l = c.before.before.before in
-    omega (arith, line-more l.before.args.s.now l.loop.i c.before.before.loop-test.true c.if1.false)
+    omega (arith, line_more l.before.args.s.now l.loop.i c.before.before.loop-test.true c.if1.false)
 
 returns-2 : tie.Need-returns-2 invariant-loop decreases-loop
-returns-2 c = omega (arith, line-none c.before.before.args.s.now c.before.loop.i c.loop-test.false)
+returns-2 c = omega (arith, line_none c.before.before.args.s.now c.before.loop.i c.loop-test.false)
 
 pub line-len-spec : {M : Type 1} → statement M
 line-len-spec =

@@ -7,7 +7,7 @@ use borrow.Author.Rules.{rules}
 use lib.ListN.{length}
 use Rattle.table.specs.Limits.{max_resources}
 use Rattle.listing.specs.Read.{table_after}
-use Rattle.listing.proofs.ReadLaws.{Left, left_start, left_end, left_open, Long, long_part, Next, next_fits, next-line, next-not, next-left, group_resource, task_room, alpha_task, use_task, use_resource}
+use Rattle.listing.proofs.ReadLaws.{Left, left_start, left_end, left_open, Long, long_part, Next, next_fits, next_line_lem, next_not, next_left, group_resource, task_room, alpha_task, use_task, use_resource}
 use Rattle.listing.proofs.read_lines.Statement.{statement}
 use Rattle.listing.proofs.read_lines.Tie as tie
 
@@ -50,11 +50,11 @@ add_at c = omega (arith, (next c.before).more)
 
 loop-again : tie.Need-loop-preserved invariant-loop decreases-loop
 unfolding table_after
-loop-again c = next-left (next c.before.before.before.before) c.before.said.given.1 (λ r. refl) refl c.before.before.before.after.ensures
+loop-again c = next_left (next c.before.before.before.before) c.before.said.given.1 (λ r. refl) refl c.before.before.before.after.ensures
 
 -- the group's resource
 resource : (c : tie.After-said2 invariant-loop decreases-loop) → (1 ≤ c.said2.given.0.1.0.0) × (c.said2.given.0.1.0.0 ≤ max_resources)
-resource c = group_resource (next-line (next c.before.before.before) c.said2.given.1)
+resource c = group_resource (next_line_lem (next c.before.before.before) c.said2.given.1)
 
 sub-j : tie.Need-overflow-sub-j invariant-loop decreases-loop
 sub-j c = (resource c.before.before).0
@@ -69,31 +69,31 @@ loop-again-2 : tie.Need-loop-preserved-2 invariant-loop decreases-loop
 unfolding table_after
 loop-again-2 c =
     let s = c.before.before in
-    next-left (next s.before.before.before) s.said2.given.1 (λ r. refl) refl s.before.before.after.ensures
+    next_left (next s.before.before.before) s.said2.given.1 (λ r. refl) refl s.before.before.after.ensures
 
 element-set-from-table : tie.Need-element-set-from-table invariant-loop decreases-loop
-element-set-from-table c = task_room (next-line (next c.before.before.before.before.before) c.before.before.said3.given.1)
+element-set-from-table c = task_room (next_line_lem (next c.before.before.before.before.before) c.before.before.said3.given.1)
 
 loop-again-3 : tie.Need-loop-preserved-3 invariant-loop decreases-loop
 unfolding table_after
 loop-again-3 c =
     let s = c.before.before in
-    next-left (next s.before.before.before) s.said3.given.1 (λ r. refl) (rw c.new-task.ensures) s.before.before.after.ensures
+    next_left (next s.before.before.before) s.said3.given.1 (λ r. refl) (rw c.new-task.ensures) s.before.before.after.ensures
 
 sub-i : tie.Need-overflow-sub-i invariant-loop decreases-loop
-sub-i c = let x = next c.before.before.before.before in alpha_task x.left.ok (next-line x c.before.said4.given.1)
+sub-i c = let x = next c.before.before.before.before in alpha_task x.left.ok (next_line_lem x c.before.said4.given.1)
 
 loop-again-4 : tie.Need-loop-preserved-4 invariant-loop decreases-loop
 unfolding table_after
 loop-again-4 c =
     let s = c.before.before.before in
-    next-left (next s.before.before.before) s.said4.given.1 (λ r. refl) (rw c.with-alpha.ensures) s.before.before.after.ensures
+    next_left (next s.before.before.before) s.said4.given.1 (λ r. refl) (rw c.with-alpha.ensures) s.before.before.after.ensures
 
 sub-i-2 : tie.Need-overflow-sub-i-2 invariant-loop decreases-loop
-sub-i-2 c = use_task (next-line (next c.before.before.before.before) c.before.said5.given.1)
+sub-i-2 c = use_task (next_line_lem (next c.before.before.before.before) c.before.said5.given.1)
 
 with-pair-requires : tie.Need-with-pair-requires invariant-loop decreases-loop
-with-pair-requires c κs = use_resource (next-line (next c.before.before.before.before.before) c.before.before.said5.given.1)
+with-pair-requires c κs = use_resource (next_line_lem (next c.before.before.before.before.before) c.before.before.said5.given.1)
 
 mul-t51 : tie.Need-overflow-mul-t51 invariant-loop decreases-loop
 mul-t51 c = omega (arith, (next c.before.before.before.before.before.before).left.ok.tasks_most)
@@ -105,10 +105,10 @@ loop-again-5 : tie.Need-loop-preserved-5 invariant-loop decreases-loop
 unfolding table_after
 loop-again-5 c =
     let s = c.before.before.before in
-    next-left (next s.before.before.before) s.said5.given.1 (λ r. refl) (rw c.with_pair.ensures) s.before.before.after.ensures
+    next_left (next s.before.before.before) s.said5.given.1 (λ r. refl) (rw c.with_pair.ensures) s.before.before.after.ensures
 
 returns-2 : tie.Need-returns-2 invariant-loop decreases-loop
-returns-2 c = rw c.empty2.ensures (next-not (next c.before.before.before.before.before) c.before.before.said6.given.1)
+returns-2 c = rw c.empty2.ensures (next_not (next c.before.before.before.before.before) c.before.before.said6.given.1)
 
 returns-3 : tie.Need-returns-3 invariant-loop decreases-loop
 returns-3 c = c.at-end.ensures ∙ left_end c.before.before.loop.invariant c.before.loop-test.false

@@ -6,7 +6,7 @@ use native.Mathlib.Omega.{arith}
 use borrow.Author.Rules.{rules}
 use lib.ListN.{set, drop, replicate, length-replicate}
 use Rattle.basics.specs.Over.{row_to}
-use Rattle.basics.proofs.RowLaws.{over_none, over-more, over-same}
+use Rattle.basics.proofs.RowLaws.{over_none, over_more, over_same}
 use Rattle.table.specs.declared.Task.{Task}
 use Rattle.table.specs.declared.Table.{Table}
 use Rattle.table.specs.Limits.{max_tasks}
@@ -50,7 +50,7 @@ loop-again c =
     let i = l.loop.i in (
       search rules,
       (λ j. set (l.loop.invariant.1 j) i (c.merge-task.ensures j))
-          ∙ over-more (task_of t) i (replicate max_tasks empty_task) (omega (arith, length-replicate max_tasks empty_task, (accepted l).tasks_most)),
+          ∙ over_more (task_of t) i (replicate max_tasks empty_task) (omega (arith, length-replicate max_tasks empty_task, (accepted l).tasks_most)),
     )
 
 returns : tie.Need-returns invariant-loop decreases-loop
@@ -59,7 +59,7 @@ returns c =
     let l = c.before in
     let t = l.before.before.before.before.args.t1 in
     let all : l.loop.i ≡ t.n = omega arith in
-    l.loop.invariant.1 ∙ ap (passed t) all ∙ over-same (task_of t) empty_task t.n max_tasks (accepted l).tasks_most
+    l.loop.invariant.1 ∙ ap (passed t) all ∙ over_same (task_of t) empty_task t.n max_tasks (accepted l).tasks_most
 
 pub merge-tasks-spec : {M : Type 1} → statement M
 merge-tasks-spec =

@@ -6,7 +6,7 @@ use native.Mathlib.Decide.{ℕ_discrete}
 use native.Mathlib.Omega.{arith}
 use borrow.Author.Rules.{rules}
 use lib.ListN.{get_or}
-use Rattle.theory.proofs.MergeLaws.{slot-alone, slot-found}
+use Rattle.theory.proofs.MergeLaws.{slot_alone, slot_found}
 use Rattle.merging.proofs.slot_of.Statement.{statement}
 use Rattle.merging.proofs.slot_of.Tie as tie
 
@@ -23,7 +23,7 @@ next g j k last before i h e (yes d) = last (ap (λ (i : ℕ). get_or g i 0) (sy
 next g j k last before i h e (no d) = before i (omega arith) e
 
 returns : tie.Need-returns invariant-loop decreases-loop
-returns c = (sym (slot-alone c.before.args.t1 c.before.args.j c.if1.true), c.before.requires)
+returns c = (sym (slot_alone c.before.args.t1 c.before.args.j c.if1.true), c.before.requires)
 
 loop-holds : tie.Need-loop-init invariant-loop decreases-loop
 loop-holds c = (search rules, λ i h. absurd (omega arith))
@@ -32,7 +32,7 @@ returns-2 : tie.Need-returns-2 invariant-loop decreases-loop
 returns-2 c =
     let l = c.before.before in
     let b = l.before.before in
-    (sym (slot-found b.args.t1 b.args.j l.loop.k l.before.if1.false (omega (arith, b.requires)) c.if2.true l.loop.invariant.1), omega (arith, b.requires))
+    (sym (slot_found b.args.t1 b.args.j l.loop.k l.before.if1.false (omega (arith, b.requires)) c.if2.true l.loop.invariant.1), omega (arith, b.requires))
 
 loop-again : tie.Need-loop-preserved invariant-loop decreases-loop
 loop-again c =
@@ -45,7 +45,7 @@ returns-3 c =
     let l = c.before in
     let b = l.before.before in
     let k : l.loop.k ≡ b.args.j = omega arith in
-    (sym (slot-found b.args.t1 b.args.j b.args.j l.before.if1.false b.requires refl (λ i h. l.loop.invariant.1 i (rw k h))), b.requires)
+    (sym (slot_found b.args.t1 b.args.j b.args.j l.before.if1.false b.requires refl (λ i h. l.loop.invariant.1 i (rw k h))), b.requires)
 
 pub slot-of-spec : {M : Type 1} → statement M
 slot-of-spec =

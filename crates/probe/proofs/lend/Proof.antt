@@ -35,8 +35,8 @@ use denote.Slice.{slice_ty, slice_val, MutSlice, Room}
 use denote.Lend.{Held, lends_slice, slice_back}
 use denote.Signature.{plain}
 use denote.Steps.{owned, facts, nothing}
-use denote.Struct.Laws as lL
-use denote.Enum.Laws as eL
+use denote.Struct.Laws as l_L
+use denote.Enum.Laws as e_L
 use denote.Triple.Entry.{on_entry}
 use denote.Triple.Spec.{Meets, triple_of}
 use denote.Triple.Statement.{Contract, Triple}
@@ -56,7 +56,7 @@ use Rattle.table.specs.contracts.Table as B
 use Rattle.table.proofs.Table.TheLaws as b'
 use Rattle.table.specs.contracts.Checked as e_reads
 use Rattle.table.proofs.Checked.TheLaws as e'
-use Rattle.probe.proofs.Lies.{Are, arr, arrTy, in_field, arr-typed, lies, whole}
+use Rattle.probe.proofs.Lies.{Are, arr, arr_ty, in_field, arr_typed, lies, whole}
 use Rattle.analysis.specs.contracts.Record as T
 use Rattle.analysis.proofs.Record.TheLaws as t'
 use Rattle.analysis.specs.contracts.analyse as analyse
@@ -82,7 +82,7 @@ abbrev ref : Ty
 ref = ty_ref erased mut (pointee (Array T.the_row 40).written)
 
 abbrev table-val : Table → Val
-table-val = lL.val B.the_type b'.the_laws
+table-val = l_L.val B.the_type b'.the_laws
 
 room40 : Room T.the_row 40
 room40 = (lit< tt, lit< tt)
@@ -139,26 +139,26 @@ module _ {M : Type 1} {𝓤 : Ura M} (𝓛 : Logic 𝓤) (mem : Memory → SProp
   exits ans w zs is =
       qed 𝓛 [] ∵
       suffices ! _ (ends_at 𝓛 lend.ended stayed (lend.clauses 𝓛 mem run) ((tt, tt, tt, a, vals), tt) (made_val w zs) (made ans zs) (tt, (tt, (tt, (tt, tt)))) (tt, (tt, (tt, (tt, tt))))) $
-      owned ! p.the_row (Is p.the_row) (lL.makes p.the_type p'.the_plain 𝓛) (made ans zs) (made_val w zs ∷ []) is $
+      owned ! p.the_row (Is p.the_row) (l_L.makes p.the_type p'.the_plain 𝓛) (made ans zs) (made_val w zs ∷ []) is $
       nothing ! $ nothing ! $ fjoin ! $ nothing ! $ fjoin ! $ nothing ! $ fjoin ! $ nothing ! $ fjoin ! $ join ! $ nothing ! $ join ! $ nothing ! $ move ! (1 ∷ 0 ∷ []) $ done !
 
   typed-answer : (ans : Checked) (w : Val) → Is e_reads.the_row ans (w ∷ []) → Holds (has_ty e'.mir w) × WT w
-  typed-answer ans w is = ((eL.lawful e_reads.the_type e'.the_laws 𝓛 tt).typed ans (w ∷ []) is).0
+  typed-answer ans w is = ((e_L.lawful e_reads.the_type e'.the_laws 𝓛 tt).typed ans (w ∷ []) is).0
 
   typed-made : (ans : Checked) (w : Val) (zs : List Record) → Is p.the_row (made ans zs) (made_val w zs ∷ []) → Holds (has_ty p'.mir (made_val w zs)) × WT (made_val w zs)
-  typed-made ans w zs is = ((lL.lawful p.the_type p'.the_laws 𝓛).typed (made ans zs) (made_val w zs ∷ []) is).0
+  typed-made ans w zs is = ((l_L.lawful p.the_type p'.the_laws 𝓛).typed (made ans zs) (made_val w zs ∷ []) is).0
 
   typed-table : Holds (has_ty b'.mir (table-val t)) × WT (table-val t)
-  typed-table = ((lL.lawful B.the_type b'.the_laws 𝓛).typed t (table-val t ∷ []) t-is).0
+  typed-table = ((l_L.lawful B.the_type b'.the_laws 𝓛).typed t (table-val t ∷ []) t-is).0
 
   module _ (C : Calls 𝓤 H) (Λ : Loops 𝓤 H) (fm : FmC 𝓤 H 𝓛.laws C) (known : Triple 𝓤 (C #analysis·analyse) (Analyse 𝓛 mem run)) (l₀ l₁ l₂ l₃ l₄ l₅ l₆ l₇ l₈ l₉ : ℕ) where
     abbrev En : Env 𝓤 H
-    En = (p'.mir, l₀) ∷ (b'.mir, l₁) ∷ (ty_int w32, l₂) ∷ (arrTy 40, l₃) ∷ (ty_int w64, l₄) ∷ (arrTy 40, l₅) ∷ (e'.mir, l₆) ∷ (ref, l₇) ∷ (slice, l₈) ∷ (arrTy 40, l₉) ∷ []
+    En = (p'.mir, l₀) ∷ (b'.mir, l₁) ∷ (ty_int w32, l₂) ∷ (arr_ty 40, l₃) ∷ (ty_int w64, l₄) ∷ (arr_ty 40, l₅) ∷ (e'.mir, l₆) ∷ (ref, l₇) ∷ (slice, l₈) ∷ (arr_ty 40, l₉) ∷ []
 
     -- the locals once the parameters are passed
     abbrev Passed : List (Item 𝓤)
-    Passed = ‵ (froom (arrTy 40) l₉ 0) ∷ ‵ (fdies (arrTy 40) l₉) ∷ ‵ (froom slice l₈ 0) ∷ ‵ (fdies slice l₈) ∷ ‵ (froom ref l₇ 0) ∷ ‵ (fdies ref l₇) ∷ ‵ (froom e'.mir l₆ 0) ∷ ‵ (fdies e'.mir l₆)
-        ∷ ‵ (froom (arrTy 40) l₅ 0) ∷ ‵ (fdies (arrTy 40) l₅) ∷ ‵ (fat full_share (ty_int w64) l₄ 0 (vint w64 n)) ∷ ‵ (fdies (ty_int w64) l₄) ∷ ‵ (fat full_share (arrTy 40) l₃ 0 (arr 40 ys)) ∷ ‵ (fdies (arrTy 40) l₃)
+    Passed = ‵ (froom (arr_ty 40) l₉ 0) ∷ ‵ (fdies (arr_ty 40) l₉) ∷ ‵ (froom slice l₈ 0) ∷ ‵ (fdies slice l₈) ∷ ‵ (froom ref l₇ 0) ∷ ‵ (fdies ref l₇) ∷ ‵ (froom e'.mir l₆ 0) ∷ ‵ (fdies e'.mir l₆)
+        ∷ ‵ (froom (arr_ty 40) l₅ 0) ∷ ‵ (fdies (arr_ty 40) l₅) ∷ ‵ (fat full_share (ty_int w64) l₄ 0 (vint w64 n)) ∷ ‵ (fdies (ty_int w64) l₄) ∷ ‵ (fat full_share (arr_ty 40) l₃ 0 (arr 40 ys)) ∷ ‵ (fdies (arr_ty 40) l₃)
         ∷ ‵ (fat full_share (ty_int w32) l₂ 0 (vint w32 allowance)) ∷ ‵ (fdies (ty_int w32) l₂) ∷ ‵ (fat full_share b'.mir l₁ 0 (table-val t)) ∷ ‵ (fdies b'.mir l₁) ∷ ‵ (froom p'.mir l₀ 0) ∷ ‵ (fdies p'.mir l₀) ∷ []
 
     -- the slice that is lent, under the ghost name γ, and what `analyse`'s triple binds outside
@@ -174,13 +174,13 @@ module _ {M : Type 1} {𝓤 : Ura M} (𝓛 : Logic 𝓤) (mem : Memory → SProp
     goes-analyse : (α : ℕ) (γ : GName) → ent 𝓤 (sep 𝓤 (A.lft (α ∷ []) full_share) (sem 𝓛 ((MutSlice (named 0) (α ∷ []) T.the_row).own_val (x γ) (s ∷ [])))) ((Analyse 𝓛 mem run).pre (to-analyse α γ))
     goes-analyse α γ =
         qed 𝓛 (‵ (flft (α ∷ []) full_share) ∷ ‵ ((MutSlice (named 0) (α ∷ []) T.the_row).own_val (x γ) (s ∷ [])) ∷ []) ∵
-        nothing ! $ move ! (2 ∷ 0 ∷ []) $ fjoin ! $ owned ! u32 (Is u32) (uint_Makes 𝓛 w32) allowance _ (refl, allowance-fits) $ fjoin ! $ owned ! B.the_row (Is B.the_row) (lL.makes B.the_type b'.the_plain 𝓛) t (table-val t ∷ []) t-is $ fjoin ! $
+        nothing ! $ move ! (2 ∷ 0 ∷ []) $ fjoin ! $ owned ! u32 (Is u32) (uint_Makes 𝓛 w32) allowance _ (refl, allowance-fits) $ fjoin ! $ owned ! B.the_row (Is B.the_row) (l_L.makes B.the_type b'.the_plain 𝓛) t (table-val t ∷ []) t-is $ fjoin ! $
         nothing ! $ move ! (2 ∷ 0 ∷ []) $ join ! $ join ! $ nothing ! $ move ! (1 ∷ 0 ∷ []) $ done !
 
     body : Sq 𝓛 Passed (runs C Λ En mir'.t-1 (at_ret En Post))
     body =
         -- [_9; …; _8; …; _7; …; _6; …; _5; …; _4; …; _3; …; _2; …; _1; …; room for _0; …]
-        assigns ! (of_opd ! (load ! (from ! (stop !)) (look ! 12 refl))) (from ! (stop !)) (init ! 8 refl (arr-typed 40 𝓛 ys (arr 40 ys) ys-are)) $
+        assigns ! (of_opd ! (load ! (from ! (stop !)) (look ! 12 refl))) (from ! (stop !)) (init ! 8 refl (arr_typed 40 𝓛 ys (arr 40 ys) ys-are)) $
         assigns ! (addr ! (from ! (stop !))) (from ! (stop !)) (init ! 4 refl (tt, tt)) $
         assigns ! (agg ! (and_then ! (load ! (from ! (stop !)) (look ! 4 refl)) (and_then ! (load ! (from ! (stop !)) (look ! 10 refl)) (no_more !)))) (from ! (stop !)) (init ! 2 refl (tt, (tt, (record { fits = n-fits }, tt)))) $
         rewrite ! 2 (λ (m : ℕ). ‵ (fat full_share slice l₈ 0 (slice_val (l₅, 0) m))) (sym front_long) refl $
@@ -205,9 +205,9 @@ module _ {M : Type 1} {𝓤 : Ura M} (𝓛 : Logic 𝓤) (mem : Memory → SProp
         -- [the first part; true; its length; true; the others; _9; …]
         rewrite ! 4 (λ (m : ℕ). ‵ (cells (at_mem T.the_row) others l₅ (behind m))) (sym e) refl $ move ! (0 ∷ 4 ∷ []) $
         use2 𝓛 (‵ (cells (at_mem T.the_row) (joined zs.1.1.0) l₅ 0)) (join_app 𝓛 (at_mem T.the_row) zs.1.1.0 others l₅ 0) $ feq_i ! ℕ (length (joined zs.1.1.0)) 40 (same_len n ys zs.1.1.0 e ∙ long) $ fjoin ! $
-        use1 𝓛 (given (Are 40 (joined zs.1.1.0) (arr 40 (joined zs.1.1.0) ∷ [])) (‵ (fat full_share (arrTy 40) l₅ 0 (arr 40 (joined zs.1.1.0))))) (whole 40 𝓛 (joined zs.1.1.0) l₅) $ learn ! (λ zs-are.
+        use1 𝓛 (given (Are 40 (joined zs.1.1.0) (arr 40 (joined zs.1.1.0) ∷ [])) (‵ (fat full_share (arr_ty 40) l₅ 0 (arr 40 (joined zs.1.1.0))))) (whole 40 𝓛 (joined zs.1.1.0) l₅) $ learn ! (λ zs-are.
         -- [_5; true; its length; true; _9; …; _8; …; _7; …; _6; …; what frees _5; _4; …; _3; …; _2; …; _1; …; room for _0; …]
-        assigns ! (of_opd ! (load ! (from ! (stop !)) (look ! 0 refl))) (from ! (stop !)) (init ! 4 refl (arr-typed 40 𝓛 (joined zs.1.1.0) (arr 40 (joined zs.1.1.0)) zs-are)) $
+        assigns ! (of_opd ! (load ! (from ! (stop !)) (look ! 0 refl))) (from ! (stop !)) (init ! 4 refl (arr_typed 40 𝓛 (joined zs.1.1.0) (arr 40 (joined zs.1.1.0)) zs-are)) $
         assigns ! (agg ! (and_then ! (load ! (from ! (stop !)) (look ! 10 refl)) (and_then ! (load ! (from ! (stop !)) (look ! 4 refl)) (no_more !)))) (from ! (stop !)) (init ! 21 refl (typed-made ans w (joined zs.1.1.0) (made-is ans w (joined zs.1.1.0) is zs-are))) $
         returns ! (look ! 21 refl) $ forget ! 0 refl $ forget ! 4 refl $ forget ! 6 refl $ forget ! 8 refl $ forget ! 10 refl $ forget ! 13 refl $ forget ! 15 refl $ forget ! 17 refl $ forget ! 19 refl $ forget ! 21 refl $
         move ! (21 ∷ 22 ∷ []) $ free1 ! $ move ! (19 ∷ 20 ∷ []) $ free1 ! $ move ! (17 ∷ 18 ∷ []) $ free1 ! $ move ! (15 ∷ 16 ∷ []) $ free1 ! $ move ! (13 ∷ 14 ∷ []) $ free1 ! $ move ! (0 ∷ 12 ∷ []) $ free1 ! $
@@ -218,7 +218,7 @@ module _ {M : Type 1} {𝓤 : Ura M} (𝓛 : Logic 𝓤) (mem : Memory → SProp
   walk C Λ fm known =
       qed 𝓛 (‵ ftrue ∷ ‵ (owns (B.the_row ∷ u32 ∷ Array T.the_row 40 ∷ usize ∷ []) a vals) ∷ []) ∵ keep ! [] $ enter ! C Λ code.function (table-val t ∷ vint w32 allowance ∷ arr 40 ys ∷ vint w64 n ∷ []) _ $
       alloc1 ! (λ l₀. alloc1 ! (λ l₁. alloc1 ! (λ l₂. alloc1 ! (λ l₃. alloc1 ! (λ l₄. alloc1 ! (λ l₅. alloc1 ! (λ l₆. alloc1 ! (λ l₇. alloc1 ! (λ l₈. alloc1 ! (λ l₉. alloc0 ! $ params1 ! $
-      pass1 ! (init ! 16 refl typed-table) $ pass1 ! (init ! 14 refl (tt, record { fits = allowance-fits })) $ pass1 ! (init ! 12 refl (arr-typed 40 𝓛 ys (arr 40 ys) ys-are)) $ pass1 ! (init ! 10 refl (tt, record { fits = n-fits })) $ pass0 ! $
+      pass1 ! (init ! 16 refl typed-table) $ pass1 ! (init ! 14 refl (tt, record { fits = allowance-fits })) $ pass1 ! (init ! 12 refl (arr_typed 40 𝓛 ys (arr 40 ys) ys-are)) $ pass1 ! (init ! 10 refl (tt, record { fits = n-fits })) $ pass0 ! $
       body C Λ fm known l₀ l₁ l₂ l₃ l₄ l₅ l₆ l₇ l₈ l₉))))))))))
 
 module _ {M : Type 1} {𝓤 : Ura M} (𝓛 : Logic 𝓤) (mem : Memory → SProp 𝓤) (run : Routine → Fun 𝓤) where
@@ -226,7 +226,7 @@ module _ {M : Type 1} {𝓤 : Ura M} (𝓛 : Logic 𝓤) (mem : Memory → SProp
 
   lend-walks : (C : Calls 𝓤 H) (Λ : Loops 𝓤 H) → FmC 𝓤 H 𝓛.laws C → Triple 𝓤 (C #analysis·analyse) (Analyse 𝓛 mem run) → Walks 𝓛 lend.ended stayed (WpFn 𝓤 H C Λ code.function) (lend.clauses 𝓛 mem run)
   lend-walks C Λ fm known = walked 𝓛 lend.ended stayed (lend.clauses 𝓛 mem run) (WpFn 𝓤 H C Λ code.function)
-      (λ κs. (lL.vals B.the_type b'.the_laws, (uint_vals w32, (array_vals (lL.vals T.the_type t'.the_laws), (uint_vals w64, tt))))) (λ κs. (lL.tells B.the_type b'.the_laws, (uint_Tells w32, (Array-Tells T.the_row (lL.vals T.the_type t'.the_laws) (lL.tells T.the_type t'.the_laws) 40, (uint_Tells w64, tt)))))
+      (λ κs. (l_L.vals B.the_type b'.the_laws, (uint_vals w32, (array_vals (l_L.vals T.the_type t'.the_laws), (uint_vals w64, tt))))) (λ κs. (l_L.tells B.the_type b'.the_laws, (uint_Tells w32, (Array-Tells T.the_row (l_L.vals T.the_type t'.the_laws) (l_L.tells T.the_type t'.the_laws) 40, (uint_Tells w64, tt)))))
       (λ κs qs bounds a g are. needs 𝓤 (a.1.1.1.0 ≤ 40) _ (λ within. walk 𝓛 mem run a.0 a.1.0 a.1.1.0 a.1.1.1.0 are.0 are.1.0.1 are.1.1.0 are.1.1.0.1.0.1 are.1.1.1.0.1 within C Λ fm known))
 
 lend-meets : {M : Type 1} {𝓤 : Ura M} (𝓛 : Logic 𝓤) → (mem : Memory → SProp 𝓤) (run : Routine → Fun 𝓤) (𝓣 : Tables 𝓤 𝓛.H) → Triple 𝓤 (𝓣.C #analysis·analyse) (Analyse 𝓛 mem run)

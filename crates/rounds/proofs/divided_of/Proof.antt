@@ -5,7 +5,7 @@ use native.Mathlib.Omega.{arith}
 use borrow.Author.Rules.{rules}
 use Rattle.table.specs.Limits.{max_tasks}
 use Rattle.rounds.specs.Shares.{share_at, part_of}
-use Rattle.rounds.proofs.PackLaws.{parts, Front, front_none, front-parts}
+use Rattle.rounds.proofs.PackLaws.{parts, Front, front_none, front_parts}
 use Rattle.rounds.proofs.divided_of.Statement.{statement}
 use Rattle.rounds.proofs.divided_of.Tie as tie
 
@@ -43,7 +43,7 @@ loop-again c =
     let g = l.before.before.requires.each k (omega arith) in (
       search rules,
       search rules,
-      front-parts s k g l.loop.invariant.2 (omega arith) one.some.ensures one.before.part-of.ensures c.some2.ensures c.before.part-of2.ensures,
+      front_parts s k g l.loop.invariant.2 (omega arith) one.some.ensures one.before.part-of.ensures c.some2.ensures c.before.part-of2.ensures,
     )
 
 returns : tie.Need-returns invariant-loop decreases-loop

@@ -10,7 +10,7 @@ use Rattle.basics.proofs.AllLaws.{all_none, all_more, all_fails}
 use Rattle.table.specs.Limits.{max_tasks}
 use Rattle.rounds.specs.Shares.{share_at}
 use Rattle.rounds.specs.Outcome.{share_fits, head_fits}
-use Rattle.rounds.proofs.SoundLaws.{head_tasks, sound-head, sound-all}
+use Rattle.rounds.proofs.SoundLaws.{head_tasks, sound_head, sound_all}
 use Rattle.rounds.proofs.is_sound.Statement.{statement}
 use Rattle.rounds.proofs.is_sound.Tie as tie
 
@@ -22,7 +22,7 @@ abbrev decreases-loop : tie.decreases-loop
 decreases-loop deadline s n k₀ k = n - k
 
 returns : tie.Need-returns invariant-loop decreases-loop
-returns c = sym (sound-head _ _ (stops c.before.head-fits.ensures c.if1.true))
+returns c = sym (sound_head _ _ (stops c.before.head-fits.ensures c.if1.true))
 
 loop-holds : tie.Need-loop-init invariant-loop decreases-loop
 loop-holds c =
@@ -32,7 +32,7 @@ loop-holds c =
 returns-2 : tie.Need-returns-2 invariant-loop decreases-loop
 returns-2 c =
     let l = c.before.before.before.before in
-    sym (sound-all _ _ l.loop.invariant.0 (all_fails _ l.loop.k _ (omega arith) (stops c.before.share-fits.ensures c.if2.true)))
+    sym (sound_all _ _ l.loop.invariant.0 (all_fails _ l.loop.k _ (omega arith) (stops c.before.share-fits.ensures c.if2.true)))
 
 loop-again : tie.Need-loop-preserved invariant-loop decreases-loop
 loop-again c =
@@ -44,7 +44,7 @@ returns-3 c =
     let l = c.before.loop in
     let s = c.before.before.before.before.args.t1 in
     let e : l.k ≡ s.n = omega arith in
-    sym (sound-all s _ l.invariant.0 (ap (λ (n : ℕ). all_to n (λ j. share_fits (share_at s j))) (sym e) ∙ l.invariant.3))
+    sym (sound_all s _ l.invariant.0 (ap (λ (n : ℕ). all_to n (λ j. share_fits (share_at s j))) (sym e) ∙ l.invariant.3))
 
 pub is-sound-spec : {M : Type 1} → statement M
 is-sound-spec =

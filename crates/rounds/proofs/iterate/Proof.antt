@@ -4,7 +4,7 @@ use mathlib.Core.Path.{◌∙◌}
 use native.Mathlib.Nat.{div-le_self}
 use native.Mathlib.Omega.{arith}
 use borrow.Author.Rules.{rules}
-use Rattle.rounds.proofs.RoundLaws.{Summed, summed_none, summed_more, round_of, round_is, Sought, sought_start, Round, round-meets, round-misses, round-open, round-more}
+use Rattle.rounds.proofs.RoundLaws.{Summed, summed_none, summed_more, round_of, round_is, Sought, sought_start, Round, round_meets, round_misses, round_open, round_more}
 use Rattle.rounds.proofs.StrideLaws.{stride_more}
 use Rattle.rounds.proofs.iterate.Statement.{statement}
 use Rattle.rounds.proofs.iterate.Tie as tie
@@ -81,16 +81,16 @@ add-f-3 c =
     omega (arith, div-le_self (part + (cpus - 1)) cpus)
 
 returns : tie.Need-returns invariant-loop2 decreases-loop2 invariant-loop3 decreases-loop3 invariant-loop decreases-loop
-returns c = c.found.ensures ∙ round-meets (round c.before.before.before.before.before.before) (omega arith)
+returns c = c.found.ensures ∙ round_meets (round c.before.before.before.before.before.before) (omega arith)
 
 returns-2 : tie.Need-returns-2 invariant-loop2 decreases-loop2 invariant-loop3 decreases-loop3 invariant-loop decreases-loop
-returns-2 c = c.found2.ensures ∙ round-misses (round c.before.before.before.before.before.before.before) (omega arith) (omega arith)
+returns-2 c = c.found2.ensures ∙ round_misses (round c.before.before.before.before.before.before.before) (omega arith) (omega arith)
 
 returns-3 : tie.Need-returns-3 invariant-loop2 decreases-loop2 invariant-loop3 decreases-loop3 invariant-loop decreases-loop
-returns-3 c = c.found3.ensures ∙ round-open (round c.before.before.before.before.before.before.before.before) (omega arith) (omega arith) (omega arith)
+returns-3 c = c.found3.ensures ∙ round_open (round c.before.before.before.before.before.before.before.before) (omega arith) (omega arith) (omega arith)
 
 loop-again : tie.Need-loop-preserved invariant-loop2 decreases-loop2 invariant-loop3 decreases-loop3 invariant-loop decreases-loop
-loop-again c = round-more (round c.before.before.before.before.before.before.before.before) (omega arith) (omega arith) (omega arith)
+loop-again c = round_more (round c.before.before.before.before.before.before.before.before) (omega arith) (omega arith) (omega arith)
 
 even-reach-requires : tie.Need-even-reach-requires invariant-loop2 decreases-loop2 invariant-loop3 decreases-loop3 invariant-loop decreases-loop
 even-reach-requires c κs =

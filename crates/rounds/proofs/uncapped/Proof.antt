@@ -4,7 +4,7 @@ use Prim.Native.Nat.{◌+◌, ◌*◌, ◌≤◌}
 use native.Mathlib.Omega.{arith}
 use borrow.Author.Rules.{rules}
 use Rattle.rounds.specs.Parts.{part_uncapped}
-use Rattle.rounds.proofs.QuotLaws.{periods-fit, units-fit, jobs-by, jobs_fit}
+use Rattle.rounds.proofs.QuotLaws.{periods_fit, units_fit, jobs_by, jobs_fit}
 use Rattle.rounds.proofs.uncapped.Statement.{statement}
 use Rattle.rounds.proofs.uncapped.Tie as tie
 
@@ -16,7 +16,7 @@ fits : (c : tie.After-quot)
 fits c =
     let b = c.before.before in
     let h = b.requires.0.units_period in
-    (units-fit _ _ _ _ c.quot.ensures h, periods-fit _ _ _ _ c.quot.ensures h)
+    (units_fit _ _ _ _ c.quot.ensures h, periods_fit _ _ _ _ c.quot.ensures h)
 
 mul-result : tie.Need-overflow-mul-result
 mul-result c = omega (arith, fits c.before)
@@ -39,7 +39,7 @@ is c =
     let h = b.requires.0.units_period in
     let e = b.args.e in
     let a = b.args.t + e.off in (
-      jobs-by e.period e.units a q.result q.ensures h c.least.result c.least.ensures,
+      jobs_by e.period e.units a q.result q.ensures h c.least.result c.least.ensures,
       omega (arith, jobs_fit e.period e.units a h, b.requires.0.near, b.requires.1),
     )
 

@@ -5,7 +5,7 @@ use native.Mathlib.Omega.{arith}
 use borrow.Author.Rules.{rules}
 use Rattle.table.specs.Limits.{max_tasks}
 use Rattle.rounds.specs.Shares.{share_at, whole_of}
-use Rattle.rounds.proofs.PackLaws.{wholes, Front, front_none, front-whole}
+use Rattle.rounds.proofs.PackLaws.{wholes, Front, front_none, front_whole}
 use Rattle.rounds.proofs.wholes_of.Statement.{statement}
 use Rattle.rounds.proofs.wholes_of.Tie as tie
 
@@ -32,7 +32,7 @@ loop-again c =
     let k = l.loop.k in
     let s = l.before.before.args.t1 in
     let g = l.before.before.requires.each k (omega arith) in
-    (search rules, search rules, front-whole s k g l.loop.invariant.2 (omega arith) c.some.ensures c.before.part-of.ensures)
+    (search rules, search rules, front_whole s k g l.loop.invariant.2 (omega arith) c.some.ensures c.before.part-of.ensures)
 
 returns : tie.Need-returns invariant-loop decreases-loop
 returns c =

@@ -8,12 +8,12 @@ use lib.ListN.{length, take, drop}
 use lib.Seq.{length-take-le, take_at}
 use Rattle.basics.specs.Over.{row_to}
 use Rattle.basics.specs.Text.{put_into}
-use Rattle.basics.proofs.RowLaws.{row-length}
+use Rattle.basics.proofs.RowLaws.{row_length}
 use Rattle.table.specs.Answers.{or_wrote}
 use Rattle.salvaging.specs.Fates.{code_at}
 use Rattle.salvaging.specs.Salvage.{max_blocks, left_in, in_order, if_fine}
 use Rattle.salvaging.proofs.AnswerLaws.{fine_below, placed_as, looked, looked_bounds}
-use Rattle.salvaging.proofs.FoundLaws.{codes, fits, blocks, blocks-placed, blocks-few, blocks-room, answer_is, listed_is, salvaged_is}
+use Rattle.salvaging.proofs.FoundLaws.{codes, fits, blocks, blocks_placed, blocks_few, blocks_room, answer_is, listed_is, salvaged_is}
 use Rattle.salvaging.proofs.salvage.Statement.{statement}
 use Rattle.salvaging.proofs.salvage.Tie as tie
 
@@ -53,10 +53,10 @@ module _ (m : tie.After-put-codes) where
   row : take m.before.before.blocks-of.result m.put-codes.last.0 ≡ codes (input m)
   row =
       let k = m.before.before.blocks-of in
-      ap (take k.result) m.put-codes.ensures.1 ∙ take_at _ _ k.result (row-length k.result (code_at (input m))) ∙ ap (λ (n : ℕ). row_to n (code_at (input m))) k.ensures
+      ap (take k.result) m.put-codes.ensures.1 ∙ take_at _ _ k.result (row_length k.result (code_at (input m))) ∙ ap (λ (n : ℕ). row_to n (code_at (input m))) k.ensures
 
-  row-long : m.before.before.blocks-of.result ≡ length (take m.before.before.blocks-of.result m.put-codes.last.0)
-  row-long = sym (length-take-le _ _ row_room)
+  row_long : m.before.before.blocks-of.result ≡ length (take m.before.before.blocks-of.result m.put-codes.last.0)
+  row_long = sym (length-take-le _ _ row_room)
 
   left_is : m.put-codes.result ≡ left_in (codes (input m))
   left_is = m.put-codes.ensures.0 ∙ ap (λ (k : ℕ). left_in (row_to k (code_at (input m)))) m.before.before.blocks-of.ensures
@@ -81,7 +81,7 @@ array-share-prefix-codes : tie.Need-array-share-prefix-codes
 array-share-prefix-codes c = row_room c.before
 
 slice-aggregate-find : tie.Need-slice-aggregate-find
-slice-aggregate-find c = row-long c.before.before
+slice-aggregate-find c = row_long c.before.before
 
 find-requires : tie.Need-find-requires
 find-requires c κs = let m = c.before.before in (row m, left_is m ∙ ap left_in (sym (row m)))
@@ -96,25 +96,25 @@ array-share-prefix-codes-3 : tie.Need-array-share-prefix-codes-3
 array-share-prefix-codes-3 c = row_room (coding (finding c.before))
 
 slice-aggregate-put-blocks : tie.Need-slice-aggregate-put-blocks
-slice-aggregate-put-blocks c = row-long (coding (finding c.before.before))
+slice-aggregate-put-blocks c = row_long (coding (finding c.before.before))
 
 put-blocks-requires : tie.Need-put-blocks-requires
 put-blocks-requires c κs =
     let n = c.before.before in
     let m = coding (finding n) in
     let k = bounds m.before.before in (
-      omega (arith, row-long m, k.1),
-      omega (arith, row-long m, k.0),
-      omega (arith, row-long m, m.before.before.blocks-of.ensures, blocks-found n, blocks-few (input m) (entries m) (room m)),
-      omega (arith, blocks-found n, blocks-room (input m) (entries m) (room m)),
-      placed_as (input m) (row m) (blocks-found n) (blocks-placed (input m) (entries m) (room m)),
+      omega (arith, row_long m, k.1),
+      omega (arith, row_long m, k.0),
+      omega (arith, row_long m, m.before.before.blocks-of.ensures, blocks-found n, blocks_few (input m) (entries m) (room m)),
+      omega (arith, blocks-found n, blocks_room (input m) (entries m) (room m)),
+      placed_as (input m) (row m) (blocks-found n) (blocks_placed (input m) (entries m) (room m)),
     )
 
 mul-or-wrote : tie.Need-overflow-mul-or-wrote
 mul-or-wrote c =
     let n = c.before.before.before.before.before in
     let m = coding (finding n) in
-    omega (arith, blocks-found n, blocks-few (input m) (entries m) (room m), (looked_bounds (length (input m))).1)
+    omega (arith, blocks-found n, blocks_few (input m) (entries m) (room m), (looked_bounds (length (input m))).1)
 
 returns : tie.Need-returns
 returns c =

@@ -9,7 +9,7 @@ use Rattle.table.specs.At.{task_at}
 use Rattle.rounds.specs.Shares.{no_share}
 use Rattle.shares.specs.Pass.{UpperIs, CeilingsTo}
 use Rattle.shares.proofs.EachLaws.{EachTo, each_none, each_more, RestFrom, rest_none, rest_more}
-use Rattle.shares.proofs.CeilingLaws.{ceilings_none, ceilings-more}
+use Rattle.shares.proofs.CeilingLaws.{ceilings_none, ceilings_more}
 use Rattle.shares.proofs.shares_above.Statement.{statement}
 use Rattle.shares.proofs.shares_above.Tie as tie
 
@@ -31,7 +31,7 @@ loop-again c =
       omega arith,
       each_more p.loop.invariant.1 (omega arith) _ _ refl c.before.upper.ensures _ refl,
       rest_more p.loop.invariant.2 _ _ refl _ refl,
-      ceilings-more a.t1 a.i p.loop.ceilings c.ceilings-with.result p.loop.l (omega arith) p.loop.invariant.3 c.ceilings-with.ensures,
+      ceilings_more a.t1 a.i p.loop.ceilings c.ceilings-with.result p.loop.l (omega arith) p.loop.invariant.3 c.ceilings-with.ensures,
     )
 
 returns : tie.Need-returns invariant-loop decreases-loop

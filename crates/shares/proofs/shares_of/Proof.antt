@@ -10,7 +10,7 @@ use Rattle.theory.specs.View.{level}
 use Rattle.theory.specs.Tables.{view_of}
 use Rattle.rounds.specs.Outcome.{max_wait}
 use Rattle.shares.specs.Cutting.{table_shares, shares_of}
-use Rattle.shares.proofs.CeilingLaws.{AboveIs, ceilings-all}
+use Rattle.shares.proofs.CeilingLaws.{AboveIs, ceilings_all}
 use Rattle.shares.proofs.PeakLaws.{wait_is}
 use Rattle.shares.proofs.PassShares.{row_made}
 use Rattle.shares.proofs.shares_of.Statement.{statement}
@@ -41,7 +41,7 @@ above c =
     let a = (start c).args in
     let up = p.before.before.shares-above in
     let w = p.before.ceilings-with in
-    ceilings-all a.t1 a.i up.result.ceilings w.result p.high.result
+    ceilings_all a.t1 a.i up.result.ceilings w.result p.high.result
     (omega (arith, (there c).0)) up.ensures.ceilings w.ensures p.high.ensures
 
 -- the row that is made

@@ -21,7 +21,7 @@ use Rattle.theory.specs.View.{level}
 use Rattle.waits.specs.declared.Waiting.TheVariants.{For}
 use Rattle.waits.specs.Answers.{wait_in, slot_wait, wait_fault, wait_answer}
 use Rattle.waits.specs.Kept.{waits_by}
-use Rattle.merging.proofs.ReadLaws.{read-own, read-merged, read-bounds}
+use Rattle.merging.proofs.ReadLaws.{read_own, read_merged, read_bounds}
 use Rattle.waits.proofs.AnswerLaws.{waits_merged}
 use Rattle.waits.proofs.wait.Statement.{statement}
 use Rattle.waits.proofs.wait.Tie as tie
@@ -29,7 +29,7 @@ use Rattle.waits.proofs.wait.Tie as tie
 -- what the two checks come to
 checks : (c : tie.After-first-of) → let a = c.before.before.before.args in c.first_of.result ≡ wait_fault a.t1 a.task
 unfolding wait_fault
-checks c = c.first_of.ensures ∙ ap₂ ◌then◌ (read-own _ c.before.before.merge.ensures) c.before.asked.ensures
+checks c = c.first_of.ensures ∙ ap₂ ◌then◌ (read_own _ c.before.before.merge.ensures) c.before.asked.ensures
 
 -- where they find nothing
 record Sound (s : tie.Start) : Type 0 where
@@ -61,7 +61,7 @@ returns-2 c =
 waits-of-requires : tie.Need-waits-of-requires
 waits-of-requires c κs =
     let e = c.before.before.before.before in
-    read-bounds _ e.before.before.before.before.merge.ensures (sound e).fine
+    read_bounds _ e.before.before.before.before.merge.ensures (sound e).fine
 
 sub-i : tie.Need-overflow-sub-i
 sub-i c = (sound c.before.before.before.before.before.before).least
@@ -77,7 +77,7 @@ returns-3 c =
     let n : suc i ≡ a.task.0 = omega (arith, s.least) in
     let l : level i ≡ a.task = λ j. record { 0 = n j } in
     let x : get_or w.waits-of.result i 0 ≡ wait_in a.t1 a.task =
-    ap (λ (row : List ℕ). get_or row i 0) (w.waits-of.ensures ∙ ap waits_by (read-merged _ e.before.before.before.before.merge.ensures s.fine) ∙ waits_merged a.t1) ∙ row_at max_tasks i (slot_wait a.t1) 0 s.most ∙ rw (lt-ltb i a.t1.n s.slot) (ap (wait_in a.t1) l) in
+    ap (λ (row : List ℕ). get_or row i 0) (w.waits-of.ensures ∙ ap waits_by (read_merged _ e.before.before.before.before.merge.ensures s.fine) ∙ waits_merged a.t1) ∙ row_at max_tasks i (slot_wait a.t1) 0 s.most ∙ rw (lt-ltb i a.t1.n s.slot) (ap (wait_in a.t1) l) in
     rw (← checks e.before.before, e.enum_told.given.1, lt-ltb 0 (alpha_at a.t1 0) (omega arith)) (ap For x)
 
 pub wait_spec : {M : Type 1} → statement M

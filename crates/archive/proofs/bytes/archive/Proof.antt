@@ -4,7 +4,7 @@ use lib.ListN.{length}
 use Rattle.table.specs.declared.Reading.{Reading}
 use Rattle.card.specs.Archive.{archiving_answer, archiving}
 use Rattle.archive.specs.Archiving.{from_listing, from_listing_fault, with_archive}
-use Rattle.archive.proofs.Fits.{archive-room}
+use Rattle.archive.proofs.Fits.{archive_room}
 use borrow.Author.Rules.{rules}
 use Rattle.archive.proofs.bytes.archive.Statement.{statement}
 use Rattle.archive.proofs.bytes.archive.Tie as tie
@@ -24,7 +24,7 @@ returns-2 c =
     let r = g.before.before in
     let s = r.before.before.before in
     let e = sym (ap (λ (x : Reading). x.answer) r.read.ensures) ∙ g.enum_told.given.1 in
-    rw (r.read.ensures, archive-room s.args.listing.now e (length s.args.out.now) s.requires) at w.write.ensures
+    rw (r.read.ensures, archive_room s.args.listing.now e (length s.args.out.now) s.requires) at w.write.ensures
 
 pub archive-spec : {M : Type 1} → statement M
 archive-spec =

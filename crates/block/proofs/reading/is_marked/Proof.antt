@@ -11,8 +11,8 @@ use Rattle.block.proofs.reading.is_marked.Statement.{statement}
 use Rattle.block.proofs.reading.is_marked.Tie as tie
 
 -- the first byte is right, and the second, and the version
-first-left : (c : tie.Else1) → eqb (byte_at c.before.before.before.args.s.now 0) 0x54 ≡ true
-first-left c = eq-eqb _ _ (sym c.before.byte.ensures.0 ∙ c.if1.false)
+first_left_lem : (c : tie.Else1) → eqb (byte_at c.before.before.before.args.s.now 0) 0x54 ≡ true
+first_left_lem c = eq-eqb _ _ (sym c.before.byte.ensures.0 ∙ c.if1.false)
 
 second-left : (c : tie.Else2) → eqb (byte_at c.before.before.before.before.before.args.s.now 1) 0x42 ≡ true
 second-left c = eq-eqb _ _ (sym c.before.byte2.ensures.0 ∙ c.if2.false)
@@ -26,20 +26,20 @@ returns c = rw (ne_eqb _ _ (λ e. c.if1.true (c.before.byte.ensures.0 ∙ e)))
 
 returns-2 : tie.Need-returns-2
 unfolding marked_block
-returns-2 c = rw (first-left c.before.before, ne_eqb _ _ (λ e. c.if2.true (c.before.byte2.ensures.0 ∙ e)))
+returns-2 c = rw (first_left_lem c.before.before, ne_eqb _ _ (λ e. c.if2.true (c.before.byte2.ensures.0 ∙ e)))
 
 returns-3 : tie.Need-returns-3
 unfolding marked_block
 returns-3 c =
     let m = c.before.before in
-    rw (first-left m.before.before, second-left m, ne_eqb _ _ (λ e. c.if3.true (c.before.byte3.ensures.0 ∙ e)))
+    rw (first_left_lem m.before.before, second-left m, ne_eqb _ _ (λ e. c.if3.true (c.before.byte3.ensures.0 ∙ e)))
 
 returns-4 : tie.Need-returns-4
 unfolding marked_block
 returns-4 c =
     let v = c.before.before in
     let m = v.before.before in
-    rw (first-left m.before.before, second-left m, version-left v, stops c.before.zeros.ensures c.if4.true)
+    rw (first_left_lem m.before.before, second-left m, version-left v, stops c.before.zeros.ensures c.if4.true)
 
 returns-5 : tie.Need-returns-5
 unfolding marked_block
@@ -47,7 +47,7 @@ returns-5 c =
     let z = c.before in
     let v = z.before.before in
     let m = v.before.before in
-    c.zeros2.ensures ∙ rw (first-left m.before.before, second-left m, version-left v, passes z.before.zeros.ensures z.if4.false)
+    c.zeros2.ensures ∙ rw (first_left_lem m.before.before, second-left m, version-left v, passes z.before.zeros.ensures z.if4.false)
 
 pub is-marked-spec : {M : Type 1} → statement M
 is-marked-spec =

@@ -6,7 +6,7 @@ use native.Mathlib.Omega.{arith}
 use borrow.Author.Rules.{rules}
 use lib.ListN.{drop, replicate}
 use Rattle.basics.specs.Over.{row_to}
-use Rattle.basics.proofs.RowLaws.{over_none, over-more}
+use Rattle.basics.proofs.RowLaws.{over_none, over_more}
 use Rattle.table.specs.Empty.{unused_pair}
 use Rattle.block.specs.Block.{pair_in, task_in}
 use Rattle.block.proofs.reading.task.Statement.{statement}
@@ -24,7 +24,7 @@ loop-holds c = (omega arith, over_none _ _)
 loop-again : tie.Need-loop-preserved invariant-loop decreases-loop
 loop-again c =
     let l = c.before.before in
-    (omega arith, rw (l.loop.invariant.1, c.pair.ensures) (over-more _ _ _ (omega arith)))
+    (omega arith, rw (l.loop.invariant.1, c.pair.ensures) (over_more _ _ _ (omega arith)))
 
 returns : tie.Need-returns invariant-loop decreases-loop
 unfolding task_in

@@ -4,7 +4,7 @@ use mathlib.Core.Path.{◌≡◌}
 use native.Mathlib.Omega.{arith}
 use borrow.Author.Rules.{rules}
 use Rattle.basics.specs.Over.{join_to}
-use Rattle.basics.proofs.JoinLaws.{join-none, join_more}
+use Rattle.basics.proofs.JoinLaws.{join_none, join_more}
 use Rattle.basics.proofs.FillLaws.{Filled, filled_none, rest_length}
 use Rattle.table.specs.At.{pair_of}
 use Rattle.block.specs.Block.{entry_bytes, entries_bytes}
@@ -19,7 +19,7 @@ abbrev decreases-loop : tie.decreases-loop
 decreases-loop out₀ x k₀ out k = 16 - k
 
 loop-holds : tie.Need-loop-init invariant-loop decreases-loop
-loop-holds c = (omega arith, rw join-none (filled_none _))
+loop-holds c = (omega arith, rw join_none (filled_none _))
 
 sub-put-entry : tie.Need-overflow-sub-put-entry invariant-loop decreases-loop
 sub-put-entry c = omega (arith, c.before.before.loop.invariant.1.kept)

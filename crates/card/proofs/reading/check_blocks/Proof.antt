@@ -8,7 +8,7 @@ use Rattle.table.specs.declared.Checked.TheVariants.{Fine}
 use Rattle.table.specs.Faults.{first_fault}
 use Rattle.table.proofs.FirstLaws.{first_more, first_at}
 use Rattle.card.specs.Archive.{block_fault_at, blocks_fault}
-use Rattle.card.proofs.ArchiveLaws.{blocks-are, block-found}
+use Rattle.card.proofs.ArchiveLaws.{blocks_are, block_found}
 use Rattle.card.proofs.reading.check_blocks.Statement.{statement}
 use Rattle.card.proofs.reading.check_blocks.Tie as tie
 
@@ -24,7 +24,7 @@ found : (c : tie.After-check-block invariant-loop decreases-loop) → let l = c.
 found c =
     let l = c.before.before.before in
     let s = l.before.before.before.before in
-    block-found s.args.a.now s.args.n s.requires.0 l.loop.i l.before.head_of.ensures c.check-block.ensures
+    block_found s.args.a.now s.args.n s.requires.0 l.loop.i l.before.head_of.ensures c.check-block.ensures
 
 slice-aggregate-head-of : tie.Need-slice-aggregate-head-of invariant-loop decreases-loop
 slice-aggregate-head-of c = sym (length-take-le 512 c.before.before.args.a.now (omega arith))
@@ -39,7 +39,7 @@ returns c =
     let b = c.before.before.before in
     let l = b.before.before.before in
     let s = l.before.before.before.before in
-    sym (first_at _ l.loop.i _ _ (omega (arith, blocks-are s.args.a.now s.args.n s.requires.0)) l.loop.invariant.1 (found b ∙ c.before.r.given.1))
+    sym (first_at _ l.loop.i _ _ (omega (arith, blocks_are s.args.a.now s.args.n s.requires.0)) l.loop.invariant.1 (found b ∙ c.before.r.given.1))
 
 loop-again : tie.Need-loop-preserved invariant-loop decreases-loop
 loop-again c =
@@ -53,7 +53,7 @@ returns-2 c =
     let l = c.before in
     let s = l.before.before.before.before in
     let e : l.loop.i ≡ s.args.n = omega arith in
-    rw (blocks-are s.args.a.now s.args.n s.requires.0, ← e) (sym l.loop.invariant.1)
+    rw (blocks_are s.args.a.now s.args.n s.requires.0, ← e) (sym l.loop.invariant.1)
 
 pub check-blocks-spec : {M : Type 1} → statement M
 check-blocks-spec =

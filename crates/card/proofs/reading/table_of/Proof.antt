@@ -5,12 +5,12 @@ use native.Mathlib.Omega.{arith}
 use borrow.Author.Rules.{rules}
 use lib.ListN.{length}
 use lib.Seq.{length-take-le}
-use Rattle.card.proofs.ArchiveLaws.{tableTo, table-start, table_more, table_done}
+use Rattle.card.proofs.ArchiveLaws.{table_to, table_start, table_more, table_done}
 use Rattle.card.proofs.reading.table_of.Statement.{statement}
 use Rattle.card.proofs.reading.table_of.Tie as tie
 
 abbrev invariant-loop : tie.invariant-loop
-invariant-loop a n t₀ i₀ t i = (i ≤ n) × ((l : length a ≡ 512 * n) → t ≡ tableTo a n l i)
+invariant-loop a n t₀ i₀ t i = (i ≤ n) × ((l : length a ≡ 512 * n) → t ≡ table_to a n l i)
 
 abbrev decreases-loop : tie.decreases-loop
 decreases-loop a n t₀ i₀ t i = n - i
@@ -19,7 +19,7 @@ slice-aggregate-head-of : tie.Need-slice-aggregate-head-of invariant-loop decrea
 slice-aggregate-head-of c = sym (length-take-le 512 c.before.before.args.a.now (omega arith))
 
 loop-holds : tie.Need-loop-init invariant-loop decreases-loop
-loop-holds c = (omega arith, λ l. table-start _ _ l c.empty.ensures c.before.head_of.ensures)
+loop-holds c = (omega arith, λ l. table_start _ _ l c.empty.ensures c.before.head_of.ensures)
 
 loop-again : tie.Need-loop-preserved invariant-loop decreases-loop
 loop-again c =
@@ -31,7 +31,7 @@ returns c =
     let l = c.before in
     let s = l.before.before.before.before.before in
     let e : l.loop.i ≡ s.args.n = omega arith in
-    l.loop.invariant.1 s.requires.0 ∙ ap (tableTo _ _ s.requires.0) e ∙ table_done _ _ s.requires.0 s.requires.2
+    l.loop.invariant.1 s.requires.0 ∙ ap (table_to _ _ s.requires.0) e ∙ table_done _ _ s.requires.0 s.requires.2
 
 pub table-of-spec : {M : Type 1} → statement M
 table-of-spec =

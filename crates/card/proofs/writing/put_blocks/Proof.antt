@@ -4,7 +4,7 @@ use mathlib.Core.Path.{◌≡◌}
 use native.Mathlib.Omega.{arith}
 use borrow.Author.Rules.{rules}
 use Rattle.basics.specs.Over.{join_to}
-use Rattle.basics.proofs.JoinLaws.{join-none}
+use Rattle.basics.proofs.JoinLaws.{join_none}
 use Rattle.basics.proofs.FillLaws.{Filled, filled_none}
 use Rattle.table.proofs.Acceptance.{fine_accepted}
 use Rattle.card.specs.Archive.{block_for, archive_of}
@@ -22,7 +22,7 @@ few : (s : tie.Start invariant-loop decreases-loop) → s.args.t2.n ≤ 32
 few s = (fine_accepted s.args.t2 s.requires.0).tasks_most
 
 loop-holds : tie.Need-loop-init invariant-loop decreases-loop
-loop-holds c = (omega arith, rw join-none (filled_none _))
+loop-holds c = (omega arith, rw join_none (filled_none _))
 
 mul-x : tie.Need-overflow-mul-x invariant-loop decreases-loop
 mul-x c = omega (arith, few c.before.before.before)

@@ -6,7 +6,7 @@ use native.Mathlib.Omega.{arith}
 use lib.ListN.{drop, set}
 use borrow.Author.Rules.{rules}
 use Rattle.basics.specs.Over.{row_to}
-use Rattle.basics.proofs.RowLaws.{over_none, over-more}
+use Rattle.basics.proofs.RowLaws.{over_none, over_more}
 use Rattle.table.specs.Limits.{max_tasks}
 use Rattle.page.specs.Pages.{cells_at}
 use Rattle.report.proofs.text.all_cells.Statement.{statement}
@@ -24,7 +24,7 @@ loop-holds c = (omega arith, over_none _ _)
 loop-again : tie.Need-loop-preserved invariant-loop decreases-loop
 loop-again c =
     let l = c.before.before.before in
-    (omega arith, (λ j. set (l.loop.invariant.1 j) l.loop.i (c.Cells-of.ensures j)) ∙ over-more (cells_at l.before.args.t1) l.loop.i _ (omega arith))
+    (omega arith, (λ j. set (l.loop.invariant.1 j) l.loop.i (c.Cells-of.ensures j)) ∙ over_more (cells_at l.before.args.t1) l.loop.i _ (omega arith))
 
 returns : tie.Need-returns invariant-loop decreases-loop
 returns c =

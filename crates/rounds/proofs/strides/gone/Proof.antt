@@ -3,7 +3,7 @@ use Prim.Native.Nat.{◌+◌, ◌*◌, ◌≤◌}
 use native.Mathlib.Nat.{lt-div-mul-add}
 use native.Mathlib.Omega.{arith}
 use borrow.Author.Rules.{rules}
-use Rattle.rounds.proofs.QuotLaws.{periods-fit}
+use Rattle.rounds.proofs.QuotLaws.{periods_fit}
 use Rattle.rounds.proofs.strides.gone.Statement.{statement}
 use Rattle.rounds.proofs.strides.gone.Tie as tie
 
@@ -13,7 +13,7 @@ fits : (c : tie.After-quot)
     c.quot.result * b.args.e.period ≤ b.args.t + b.args.e.off
 fits c =
     let b = c.before.before in
-    periods-fit _ _ _ _ c.quot.ensures b.requires.0.units_period
+    periods_fit _ _ _ _ c.quot.ensures b.requires.0.units_period
 
 mul-result : tie.Need-overflow-mul-result
 mul-result c = omega (arith, fits c.before)

@@ -5,7 +5,7 @@ use native.Mathlib.Omega.{arith}
 use borrow.Author.Rules.{rules}
 use lib.ListN.{length}
 use Rattle.basics.specs.Over.{join_to}
-use Rattle.basics.proofs.JoinLaws.{join-none, join_more}
+use Rattle.basics.proofs.JoinLaws.{join_none, join_more}
 use Rattle.basics.proofs.FillLaws.{Filled, filled_none}
 use Rattle.put.proofs.OutputLaws.{filled_done, Upto, upto_of, upto_more, upto_in, upto_room}
 use Rattle.block.specs.Numbers.{byte_at}
@@ -37,7 +37,7 @@ next c =
     upto_more (so_far l) (code_line s.args.list.now i) c.put-line.auto.0 c.put-line.ensures (omega (arith, s.pre.0)) (omega (arith, line_most (i + 1) (byte_at s.args.list.now i) (omega (arith, s.pre.1))))
 
 loop-holds : tie.Need-loop-init invariant-loop decreases-loop
-loop-holds c = (omega arith, rw join-none (filled_none _))
+loop-holds c = (omega arith, rw join_none (filled_none _))
 
 sub-put-line : tie.Need-overflow-sub-put-line invariant-loop decreases-loop
 sub-put-line c = upto_in (so_far c) (omega (arith, (start c.before).pre.0))

@@ -7,7 +7,7 @@ use native.Mathlib.Omega.{arith}
 use borrow.Author.Rules.{rules}
 use lib.ListN.{length}
 use lib.Dec.{leb, ltb}
-use Rattle.basics.proofs.RowLaws.{row-length}
+use Rattle.basics.proofs.RowLaws.{row_length}
 use Rattle.table.specs.declared.Fault.TheVariants.{TooShort, Mismatch, BadCard}
 use Rattle.table.specs.Faults.{◌then◌, unless}
 use Rattle.table.specs.Rules.{table_fault}
@@ -15,7 +15,7 @@ use Rattle.card.specs.Archive.{table_in}
 use Rattle.salvaging.specs.Fates.{code_at}
 use Rattle.salvaging.specs.Salvage.{left_in, is_complete, in_order, if_fine}
 use Rattle.salvaging.proofs.AnswerLaws.{fine_below, placed_as, looked, looked_bounds, room_is}
-use Rattle.salvaging.proofs.FoundLaws.{codes, few, fits, whole, some, placed, fault-is}
+use Rattle.salvaging.proofs.FoundLaws.{codes, few, fits, whole, some, placed, fault_is}
 use Rattle.salvaging.proofs.answer.find.Statement.{statement}
 use Rattle.salvaging.proofs.answer.find.Tie as tie
 
@@ -28,7 +28,7 @@ input s = s.args.input.now
 -- the blocks that are looked at
 module _ (s : tie.Start) where
   many : length s.args.codes.now ≡ looked (input s)
-  many = ap length s.requires.0 ∙ row-length (looked (input s)) (code_at (input s))
+  many = ap length s.requires.0 ∙ row_length (looked (input s)) (code_at (input s))
 
   left_is : s.args.left ≡ left_in (codes (input s))
   left_is = s.pre.1 ∙ ap left_in s.pre.0
@@ -74,7 +74,7 @@ returns c =
     let n = c.before.before in
     let s = begin n.before.before.before in
     let e = c.before.check-table.ensures ∙ (λ j. table_fault (table_in (in_order (input s) (s.pre.0 j) (some-found n j)))) in
-    (fits-found n.before.before.before, c.first-of3.ensures ∙ (λ j. whole-found n.before j then e j) ∙ fault-is (input s) s.args.entries s.args.room)
+    (fits-found n.before.before.before, c.first-of3.ensures ∙ (λ j. whole-found n.before j then e j) ∙ fault_is (input s) s.args.entries s.args.room)
 
 pub find_spec : {M : Type 1} → statement M
 find_spec =

@@ -10,7 +10,7 @@ use Rattle.block.specs.Block.{head_in}
 use Rattle.card.specs.Archive.{block_at}
 use Rattle.salvaging.specs.Fates.{good_at, is_doubled}
 use Rattle.salvaging.proofs.BlockLaws.{part_is}
-use Rattle.salvaging.proofs.FateLaws.{good_same, fate-bad, fate-doubled, fate-kept, fate-moved}
+use Rattle.salvaging.proofs.FateLaws.{good_same, fate_bad, fate_doubled, fate_kept, fate_moved}
 use Rattle.salvaging.proofs.fates.fate_of.Statement.{statement}
 use Rattle.salvaging.proofs.fates.fate_of.Tie as tie
 
@@ -25,13 +25,13 @@ head : (c : tie.After-head-of) → let a = c.before.before.before.before.before.
 head c = let a = c.before.before.before.before.before.before.args in c.head_of.ensures ∙ rw (part_is a.s.now a.i)
 
 returns : tie.Need-returns
-returns c = sym (fate-bad _ _ (stops (good c.before.before.before.before) c.if1.true))
+returns c = sym (fate_bad _ _ (stops (good c.before.before.before.before) c.if1.true))
 
 returns-2 : tie.Need-returns-2
 returns-2 c =
     let l = c.before.before.before.before in
     let g = passes (good l.before) c.before.if1.false in
-    sym (fate-doubled _ _ g (sym (doubled l g) ∙ lt-ltb _ _ c.if2.true))
+    sym (fate_doubled _ _ g (sym (doubled l g) ∙ lt-ltb _ _ c.if2.true))
 
 returns-3 : tie.Need-returns-3
 returns-3 c =
@@ -41,7 +41,7 @@ returns-3 c =
     let s = l.before.before.before.before in
     let g = passes (good l.before) e.before.if1.false in
     let n = ap (λ (x : Head). x.number) (head h) in
-    sym (fate-kept _ _ g (sym (doubled l g) ∙ le-ltb _ _ e.if2.false) (sym n ∙ c.if3.true ∙ s.requires.2))
+    sym (fate_kept _ _ g (sym (doubled l g) ∙ le-ltb _ _ e.if2.false) (sym n ∙ c.if3.true ∙ s.requires.2))
 
 returns-4 : tie.Need-returns-4
 returns-4 c =
@@ -51,7 +51,7 @@ returns-4 c =
     let s = l.before.before.before.before in
     let g = passes (good l.before) e.before.if1.false in
     let n = ap (λ (x : Head). x.number) (head h) in
-    sym (fate-moved _ _ g (sym (doubled l g) ∙ le-ltb _ _ e.if2.false) (λ q. c.if3.false (n ∙ q ∙ sym s.requires.2)))
+    sym (fate_moved _ _ g (sym (doubled l g) ∙ le-ltb _ _ e.if2.false) (λ q. c.if3.false (n ∙ q ∙ sym s.requires.2)))
 
 pub fate-of-spec : {M : Type 1} → statement M
 fate-of-spec =

@@ -9,7 +9,7 @@ use Rattle.basics.specs.Choice.{only}
 use Rattle.basics.specs.Over.{sum_to, row_to}
 use Rattle.basics.proofs.ChoiceLaws.{only_below}
 use Rattle.basics.proofs.SumLaws.{sum_none, sum_more}
-use Rattle.basics.proofs.JoinLaws.{join-none, join_more}
+use Rattle.basics.proofs.JoinLaws.{join_none, join_more}
 use Rattle.basics.proofs.FillLaws.{Filled, filled_none, filled_byte}
 use Rattle.salvaging.specs.Fates.{code_of, code_at}
 use Rattle.basics.proofs.CountLaws.{count_on, count_off}
@@ -36,7 +36,7 @@ counted c =
     ⊎_elim (λ w. count_on _ _ (sym e ∙ w.0.taken) w.1) (λ w. count_off _ _ (sym e ∙ w.0.left) w.1) c.if1.branch
 
 loop-holds : tie.Need-loop-init invariant-loop decreases-loop
-loop-holds c = (omega arith, omega arith, sum_none _, rw join-none (filled_none _))
+loop-holds c = (omega arith, omega arith, sum_none _, rw join_none (filled_none _))
 
 loop-again : tie.Need-loop-preserved invariant-loop decreases-loop
 loop-again c =

@@ -6,7 +6,7 @@ use lib.ListN.{length}
 use Rattle.basics.specs.Over.{join_to}
 use Rattle.block.specs.Block.{head_in}
 use Rattle.salvaging.specs.Salvage.{in_order}
-use Rattle.salvaging.proofs.MendLaws.{order-at}
+use Rattle.salvaging.proofs.MendLaws.{order_at}
 use Rattle.salvaging.proofs.mending.cpus_of.Statement.{statement}
 use Rattle.salvaging.proofs.mending.cpus_of.Tie as tie
 
@@ -28,7 +28,7 @@ returns-2 : tie.Need-returns-2
 returns-2 c =
     let s = c.before.before.before.before.before in
     let n = c.before.before.if1.false in
-    let o = order-at s.args.s.now s.args.list.now s.args.n s.requires.1 s.requires.2 0 (omega arith) in
+    let o = order_at s.args.s.now s.args.list.now s.args.n s.requires.1 s.requires.2 0 (omega arith) in
     rw (c.head_at.ensures, c.before.place_of.ensures, o)
 
 pub cpus-of-spec : {M : Type 1} → statement M

@@ -4,7 +4,7 @@ use lib.ListN.{length}
 use Rattle.table.specs.declared.Reading.{Reading}
 use Rattle.writing.specs.Write.{write_answer, written}
 use Rattle.unarchive.specs.Unarchiving.{from_card, with_listing}
-use Rattle.unarchive.proofs.Fits.{listing-room}
+use Rattle.unarchive.proofs.Fits.{listing_room}
 use borrow.Author.Rules.{rules}
 use Rattle.unarchive.proofs.bytes.unarchive.Statement.{statement}
 use Rattle.unarchive.proofs.bytes.unarchive.Tie as tie
@@ -24,7 +24,7 @@ returns-2 c =
     let r = g.before.before in
     let s = r.before.before.before in
     let e = sym (ap (λ (x : Reading). x.answer) r.read.ensures) ∙ g.enum_told.given.1 in
-    rw e (rw (r.read.ensures, listing-room s.args.archive.now e (length s.args.out.now) s.requires) at w.write.ensures)
+    rw e (rw (r.read.ensures, listing_room s.args.archive.now e (length s.args.out.now) s.requires) at w.write.ensures)
 
 pub unarchive-spec : {M : Type 1} → statement M
 unarchive-spec =

@@ -5,7 +5,7 @@ use native.Mathlib.Omega.{arith}
 use Prim.Native.Nat.{◌-◌, ◌≤◌}
 use lib.ListN.{length, length-set}
 use Rattle.waits.specs.Kept.{max_kept}
-use Rattle.waits.proofs.PlacingLaws.{Placing, placed_none, placing-more, placed-full, placed-room}
+use Rattle.waits.proofs.PlacingLaws.{Placing, placed_none, placing_more, placed_full, placed_room}
 use Rattle.waits.proofs.longest.keep.Statement.{statement}
 use Rattle.waits.proofs.longest.keep.Tie as tie
 
@@ -28,7 +28,7 @@ loop-again c =
     let l = c.before.before.before.before in
     let b = l.before.before in
     let s = l.loop in
-    let p = placing-more b.args.kept.now b.args.n b.args.x s.auto s.i s.y s.invariant.1 b.requires.few s.invariant.2 in
+    let p = placing_more b.args.kept.now b.args.n b.args.x s.auto s.i s.y s.invariant.1 b.requires.few s.invariant.2 in
     (omega arith, simp length-set s.invariant.1, p c.before.larger.result c.smaller.result (omega arith) c.before.larger.ensures c.smaller.ensures)
 
 returns-2 : tie.Need-returns-2 invariant-loop decreases-loop
@@ -36,14 +36,14 @@ returns-2 c =
     let l = c.before.before in
     let b = l.before.before in
     let s = l.loop in
-    placed-full b.args.kept.now b.args.n b.args.x s.auto s.i s.y s.invariant.1 b.requires.few s.invariant.2 (omega arith) (omega arith) (omega arith)
+    placed_full b.args.kept.now b.args.n b.args.x s.auto s.i s.y s.invariant.1 b.requires.few s.invariant.2 (omega arith) (omega arith) (omega arith)
 
 returns-3 : tie.Need-returns-3 invariant-loop decreases-loop
 returns-3 c =
     let l = c.before.before in
     let b = l.before.before in
     let s = l.loop in
-    placed-room b.args.kept.now b.args.n b.args.x s.auto s.i s.y s.invariant.1 b.requires.few s.invariant.2 (omega arith) (omega arith)
+    placed_room b.args.kept.now b.args.n b.args.x s.auto s.i s.y s.invariant.1 b.requires.few s.invariant.2 (omega arith) (omega arith)
     (omega (arith, b.requires.few, c.if3.false))
 
 pub keep_spec : {M : Type 1} → statement M

@@ -5,7 +5,7 @@ use Prim.Native.Nat.{◌-◌, ◌≤◌}
 use Rattle.table.specs.Limits.{max_resources}
 use Rattle.waits.specs.Kept.{KeptWith}
 use Rattle.waits.proofs.KeptLaws.{kept_none, kept_both, kept_row}
-use Rattle.waits.proofs.KeyLaws.{keys_rest, rest_none, rest_all, rest-used, rest-unused}
+use Rattle.waits.proofs.KeyLaws.{keys_rest, rest_none, rest_all, rest_used, rest_unused}
 use Rattle.waits.proofs.longest.keep_task.Statement.{statement}
 use Rattle.waits.proofs.longest.keep_task.Tie as tie
 
@@ -31,13 +31,13 @@ keep-requires c κs =
 loop-again : tie.Need-loop-preserved invariant-loop decreases-loop
 loop-again c =
     let l = c.before.before.before.before.before.before.before in
-    let e = rest-used l.before.args.t3 l.loop.k (omega arith) (omega arith) (omega arith) in
+    let e = rest_used l.before.args.t3 l.loop.k (omega arith) (omega arith) (omega arith) in
     (omega arith, rw (e, ← c.before.key_of.ensures) (kept_both l.loop.invariant.1 c.keep.ensures))
 
 loop-again-2 : tie.Need-loop-preserved-2 invariant-loop decreases-loop
 loop-again-2 c =
     let l = c.before.before.before.before in
-    (omega arith, rw (rest-unused l.before.args.t3 l.loop.k (omega arith) (omega arith) (omega arith)) l.loop.invariant.1)
+    (omega arith, rw (rest_unused l.before.args.t3 l.loop.k (omega arith) (omega arith) (omega arith)) l.loop.invariant.1)
 
 returns : tie.Need-returns invariant-loop decreases-loop
 returns c =

@@ -5,7 +5,7 @@ use Prim.Native.Nat.{ℕ, ◌+◌, ◌-◌, ◌*◌, ◌^◌, ◌≤◌, min}
 use mathlib.Core.Path.{◌≡◌}
 use mathlib.Core.Logic.{⊎_elim}
 use Rattle.basics.proofs.ChoiceLaws.{stops, passes}
-use Rattle.waits.proofs.SummingLaws.{Going, going_first, going-past, going_more, going-last}
+use Rattle.waits.proofs.SummingLaws.{Going, going_first, going_past, going_more, going_last}
 use Rattle.waits.proofs.longest.sum_others.Statement.{statement}
 use Rattle.waits.proofs.longest.sum_others.Tie as tie
 
@@ -47,7 +47,7 @@ past e =
     let s = l.loop in
     let x = l.before.before in
     let a = x.args in
-    going-past a.kept.now a.n a.alpha a.k s.sum s.end s.i s.invariant.2 x.requires (omega arith) (passes e.before.is-of.ensures e.if2.false)
+    going_past a.kept.now a.n a.alpha a.k s.sum s.end s.i s.invariant.2 x.requires (omega arith) (passes e.before.is-of.ensures e.if2.false)
 
 loop-again-2 : tie.Need-loop-preserved-2 invariant-loop decreases-loop
 loop-again-2 c = (omega arith, omega arith, past c.before.before _ (omega (arith, c.before.if3.true)))
@@ -62,7 +62,7 @@ returns c =
     let s = c.before.loop in
     let x = c.before.before.before in
     let a = x.args in
-    (going-last a.kept.now a.n a.alpha a.k s.sum s.end s.i s.invariant.2 x.requires (omega arith), omega (arith, x.requires.few))
+    (going_last a.kept.now a.n a.alpha a.k s.sum s.end s.i s.invariant.2 x.requires (omega arith), omega (arith, x.requires.few))
 
 pub sum-others-spec : {M : Type 1} → statement M
 sum-others-spec =

@@ -8,7 +8,7 @@ use Rattle.table.specs.Limits.{max_tasks}
 use Rattle.table.specs.At.{task_at}
 use Rattle.waits.specs.Kept.{InLimits, KeptRow}
 use Rattle.waits.proofs.KeptLaws.{kept_row}
-use Rattle.waits.proofs.WaitLaws.{KeptFrom, from_none, from_more, in-limits, waits_from, waits_none, waits-more, waits_all}
+use Rattle.waits.proofs.WaitLaws.{KeptFrom, from_none, from_more, in_limits, waits_from, waits_none, waits_more, waits_all}
 use Rattle.waits.proofs.longest.waits_of.Statement.{statement}
 use Rattle.waits.proofs.longest.waits_of.Tie as tie
 
@@ -24,7 +24,7 @@ asked : (c : tie.In-loop invariant-loop decreases-loop)
     KeptRow l.loop.auto l.loop.n × InLimits (task_at l.before.args.t1 (l.loop.i - 1))
 asked c =
     let l = c.before in
-    (kept_row tt l.loop.invariant.2, in-limits l.before.args.t1 l.before.requires (l.loop.i - 1) (omega arith))
+    (kept_row tt l.loop.invariant.2, in_limits l.before.args.t1 l.before.requires (l.loop.i - 1) (omega arith))
 
 loop-holds : tie.Need-loop-init invariant-loop decreases-loop
 loop-holds c =
@@ -38,7 +38,7 @@ loop-again c =
     let b = l.before in
     let s = l.loop in
     let t = b.args.t1 in
-    let more = waits-more t b.requires s.i s.n s.auto (omega arith) (omega arith) s.invariant.2 in (
+    let more = waits_more t b.requires s.i s.n s.auto (omega arith) (omega arith) s.invariant.2 in (
       omega arith,
       s.invariant.1,
       from_more t s.i s.n c.keep-task.result s.auto c.keep-task.new.0 (omega arith) (omega arith) s.invariant.2 c.keep-task.ensures,

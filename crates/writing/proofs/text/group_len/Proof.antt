@@ -3,14 +3,14 @@ use Prim.Native.Nat.{◌+◌, ◌≤◌}
 use native.Mathlib.Omega.{arith}
 use lib.ListN.{length}
 use Rattle.put.specs.Text.{count_text}
-use Rattle.writing.proofs.WriteLaws.{group-length, group_most}
+use Rattle.writing.proofs.WriteLaws.{group_length, group_most}
 use borrow.Author.Rules.{rules}
 use Rattle.writing.proofs.text.group_len.Statement.{statement}
 use Rattle.writing.proofs.text.group_len.Tie as tie
 
 -- the line is short, so each sum fits
 short : (s : tie.Start) → 8 + length (count_text s.args.group) + length (count_text s.args.k.0) ≤ 28
-short s = omega (arith, group-length s.args.group s.args.k.0, group_most s.args.group s.args.k.0 (omega arith) (omega arith))
+short s = omega (arith, group_length s.args.group s.args.k.0, group_most s.args.group s.args.k.0 (omega arith) (omega arith))
 
 add-result : tie.Need-overflow-add-result
 add-result c = omega (arith, short c.before)
@@ -21,7 +21,7 @@ add-result-2 c = omega (arith, short c.before.before.before)
 returns : tie.Need-returns
 returns c =
     let s = c.before.before.before in
-    let e = group-length s.args.group s.args.k.0 in
+    let e = group_length s.args.group s.args.k.0 in
     (omega arith, omega (arith, short s))
 
 pub group-len-spec : {M : Type 1} → statement M

@@ -7,7 +7,7 @@ use lib.ListN.{length}
 use Rattle.basics.specs.Over.{join_to}
 use Rattle.put.proofs.TextLaws.{count_small}
 use Rattle.writing.specs.Write.{member_text, head_text}
-use Rattle.writing.proofs.WriteLaws.{none_yet, more-length, cpus_text, cpus_length}
+use Rattle.writing.proofs.WriteLaws.{none_yet, more_length, cpus_text, cpus_length}
 use borrow.Author.Rules.{rules}
 use Rattle.writing.proofs.text.head_len.Statement.{statement}
 use Rattle.writing.proofs.text.head_len.Tie as tie
@@ -34,7 +34,7 @@ unfolding member_text
 loop-again c =
     let l = c.before.before in
     let a = l.before.before.args in
-    (omega arith, omega arith, omega (arith, more-length (cpus_text a.cpus) (member_text a.t2) l.loop.k))
+    (omega arith, omega arith, omega (arith, more_length (cpus_text a.cpus) (member_text a.t2) l.loop.k))
 
 returns : tie.Need-returns invariant-loop decreases-loop
 unfolding head_text

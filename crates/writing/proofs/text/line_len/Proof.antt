@@ -3,14 +3,14 @@ use Prim.Native.Nat.{◌+◌, ◌≤◌}
 use native.Mathlib.Omega.{arith}
 use lib.ListN.{length}
 use Rattle.put.specs.Text.{time_text}
-use Rattle.writing.proofs.WriteLaws.{times_length, times-most}
+use Rattle.writing.proofs.WriteLaws.{times_length, times_most}
 use borrow.Author.Rules.{rules}
 use Rattle.writing.proofs.text.line_len.Statement.{statement}
 use Rattle.writing.proofs.text.line_len.Tie as tie
 
 -- the line is short, so each sum fits
 short : (s : tie.Start) → 8 + length (time_text s.args.x.period) + length (time_text s.args.x.run) + length (time_text s.args.x.deadline) ≤ 41
-short s = omega (arith, times_length s.args.x, times-most s.args.x (omega arith) (omega arith) (omega arith))
+short s = omega (arith, times_length s.args.x, times_most s.args.x (omega arith) (omega arith) (omega arith))
 
 add-result : tie.Need-overflow-add-result
 add-result c = omega (arith, short c.before)

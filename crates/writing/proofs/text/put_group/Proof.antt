@@ -9,13 +9,13 @@ use Rattle.put.specs.Text.{count_text}
 use Rattle.put.proofs.OutputLaws.{filled_done}
 use Rattle.put.proofs.PlaceLaws.{PutAt, filled_at, at_all}
 use Rattle.writing.specs.Write.{group_text}
-use Rattle.writing.proofs.WriteLaws.{group-length}
+use Rattle.writing.proofs.WriteLaws.{group_length}
 use borrow.Author.Rules.{rules}
 use Rattle.writing.proofs.text.put_group.Statement.{statement}
 use Rattle.writing.proofs.text.put_group.Tie as tie
 
 room : (s : tie.Start) → 8 + length (count_text s.args.group) + length (count_text s.args.k.0) ≤ length s.args.out.now
-room s = omega (arith, s.requires, group-length s.args.group s.args.k.0)
+room s = omega (arith, s.requires, group_length s.args.group s.args.k.0)
 
 -- the group, and the place behind it
 abbrev begin : tie.After-length → tie.Start

@@ -8,7 +8,7 @@ use Rattle.basics.specs.Over.{join_to}
 use Rattle.basics.proofs.FillLaws.{Filled, rest_length}
 use Rattle.put.proofs.OutputLaws.{filled_text, filled_done}
 use Rattle.writing.specs.Write.{member_text, head_text}
-use Rattle.writing.proofs.WriteLaws.{filled-first, next-room, filled_next, cpus_text}
+use Rattle.writing.proofs.WriteLaws.{filled_first, next_room, filled_next, cpus_text}
 use borrow.Author.Rules.{rules}
 use Rattle.writing.proofs.text.put_head.Statement.{statement}
 use Rattle.writing.proofs.text.put_head.Tie as tie
@@ -36,7 +36,7 @@ unfolding head_text
 room c =
     let l = c.before in
     let s = start l in
-    next-room (cpus_text s.args.cpus) (member_text s.args.t3) l.loop.k (filled l) 16 c.loop-test.true s.pre
+    next_room (cpus_text s.args.cpus) (member_text s.args.t3) l.loop.k (filled l) 16 c.loop-test.true s.pre
 
 put-counted-requires : tie.Need-put-counted-requires invariant-loop decreases-loop
 unfolding head_text
@@ -47,7 +47,7 @@ put-counted-requires c κs =
 loop-holds : tie.Need-loop-init invariant-loop decreases-loop
 loop-holds c =
     let a = c.before.before.before.before.before.before.args in
-    (omega arith, λ o q. filled-first (cpus_text a.cpus) (member_text a.t3) q)
+    (omega arith, λ o q. filled_first (cpus_text a.cpus) (member_text a.t3) q)
 
 sub-put-member : tie.Need-overflow-sub-put-member invariant-loop decreases-loop
 sub-put-member c = omega (arith, room c)

@@ -9,7 +9,7 @@ use Rattle.basics.proofs.FillLaws.{Filled, rest_length}
 use Rattle.put.proofs.OutputLaws.{filled_text, filled_done}
 use Rattle.table.proofs.Acceptance.{fine_accepted}
 use Rattle.writing.specs.Write.{text_of}
-use Rattle.writing.proofs.WriteLaws.{filled-first, next-room, filled_next, head_of, lines_of}
+use Rattle.writing.proofs.WriteLaws.{filled_first, next_room, filled_next, head_of, lines_of}
 use borrow.Author.Rules.{rules}
 use Rattle.writing.proofs.text.put_table.Statement.{statement}
 use Rattle.writing.proofs.text.put_table.Tie as tie
@@ -40,7 +40,7 @@ unfolding text_of
 room c =
     let l = c.before.before in
     let s = start l in
-    next-room (head_of s.args.t2) (lines_of s.args.t2) l.loop.i (filled l) s.args.t2.n c.before.loop-test.true s.pre.1
+    next_room (head_of s.args.t2) (lines_of s.args.t2) l.loop.i (filled l) s.args.t2.n c.before.loop-test.true s.pre.1
 
 put-head-requires : tie.Need-put-head-requires invariant-loop decreases-loop
 unfolding text_of
@@ -52,7 +52,7 @@ put-head-requires c κs =
 loop-holds : tie.Need-loop-init invariant-loop decreases-loop
 loop-holds c =
     let t = c.before.before.before.before.before.before.args.t2 in
-    (omega arith, λ o q. filled-first (head_of t) (lines_of t) q)
+    (omega arith, λ o q. filled_first (head_of t) (lines_of t) q)
 
 mul-x : tie.Need-overflow-mul-x invariant-loop decreases-loop
 mul-x c = omega (arith, few (start c.before))

@@ -8,7 +8,7 @@ use Rattle.basics.specs.Over.{join_to}
 use Rattle.basics.proofs.FillLaws.{Filled, rest_length}
 use Rattle.put.proofs.OutputLaws.{filled_text, filled_done}
 use Rattle.writing.specs.Write.{own_text, pair_text, task_text}
-use Rattle.writing.proofs.WriteLaws.{filled-first, next-room, filled_next}
+use Rattle.writing.proofs.WriteLaws.{filled_first, next_room, filled_next}
 use borrow.Author.Rules.{rules}
 use Rattle.writing.proofs.text.put_task.Statement.{statement}
 use Rattle.writing.proofs.text.put_task.Tie as tie
@@ -33,7 +33,7 @@ unfolding task_text
 room c =
     let l = c.before.before in
     let s = l.before.before.before.before.before.before in
-    next-room (own_text s.args.t2) (pair_text s.args.t2) l.loop.k (filled l) 16 c.before.loop-test.true s.requires
+    next_room (own_text s.args.t2) (pair_text s.args.t2) l.loop.k (filled l) 16 c.before.loop-test.true s.requires
 
 put-own-requires : tie.Need-put-own-requires invariant-loop decreases-loop
 unfolding task_text
@@ -44,7 +44,7 @@ put-own-requires c κs =
 loop-holds : tie.Need-loop-init invariant-loop decreases-loop
 loop-holds c =
     let x = c.before.before.before.before.before.args.t2 in
-    (omega arith, λ o q. filled-first (own_text x) (pair_text x) q)
+    (omega arith, λ o q. filled_first (own_text x) (pair_text x) q)
 
 sub-put-pair : tie.Need-overflow-sub-put-pair invariant-loop decreases-loop
 sub-put-pair c = omega (arith, room c)

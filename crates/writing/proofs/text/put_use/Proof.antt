@@ -9,14 +9,14 @@ use Rattle.put.specs.Text.{count_text, time_text}
 use Rattle.put.proofs.OutputLaws.{filled_done}
 use Rattle.put.proofs.PlaceLaws.{PutAt, filled_at, at_all}
 use Rattle.writing.specs.Write.{use_text}
-use Rattle.writing.proofs.WriteLaws.{use-length}
+use Rattle.writing.proofs.WriteLaws.{use_length}
 use borrow.Author.Rules.{rules}
 use Rattle.writing.proofs.text.put_use.Statement.{statement}
 use Rattle.writing.proofs.text.put_use.Tie as tie
 
 room : (s : tie.Start) → let k = s.args.k.0 in let p = s.args.p in
     8 + length (count_text k) + length (count_text p.requests) + length (time_text p.longest) + length (time_text p.total) ≤ length s.args.out.now
-room s = omega (arith, use-length s.args.k.0 s.args.p)
+room s = omega (arith, use_length s.args.k.0 s.args.p)
 
 -- the resource's number, and the place behind it
 abbrev begin : tie.After-length → tie.Start

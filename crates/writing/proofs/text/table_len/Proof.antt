@@ -7,7 +7,7 @@ use lib.ListN.{length}
 use Rattle.basics.specs.Over.{join_to}
 use Rattle.table.proofs.Acceptance.{fine_accepted}
 use Rattle.writing.specs.Write.{text_of}
-use Rattle.writing.proofs.WriteLaws.{none_yet, more-length, head_of, lines_of}
+use Rattle.writing.proofs.WriteLaws.{none_yet, more_length, head_of, lines_of}
 use borrow.Author.Rules.{rules}
 use Rattle.writing.proofs.text.table_len.Statement.{statement}
 use Rattle.writing.proofs.text.table_len.Tie as tie
@@ -39,7 +39,7 @@ loop-again : tie.Need-loop-preserved invariant-loop decreases-loop
 loop-again c =
     let l = c.before.before.before in
     let t = l.before.before.before.args.t1 in
-    (omega arith, omega arith, omega (arith, more-length (head_of t) (lines_of t) l.loop.i))
+    (omega arith, omega arith, omega (arith, more_length (head_of t) (lines_of t) l.loop.i))
 
 returns : tie.Need-returns invariant-loop decreases-loop
 unfolding text_of

@@ -6,7 +6,7 @@ use native.Mathlib.Omega.{arith}
 use lib.ListN.{length, length-append}
 use Rattle.basics.specs.Over.{join_to}
 use Rattle.writing.specs.Write.{times_text, alpha_text, own_text, pair_text, task_text}
-use Rattle.writing.proofs.WriteLaws.{none_yet, more-length}
+use Rattle.writing.proofs.WriteLaws.{none_yet, more_length}
 use borrow.Author.Rules.{rules}
 use Rattle.writing.proofs.text.task_len.Statement.{statement}
 use Rattle.writing.proofs.text.task_len.Tie as tie
@@ -30,7 +30,7 @@ unfolding pair_text
 loop-again c =
     let l = c.before.before.before in
     let x = l.before.before.before.args.t1 in
-    (omega arith, omega arith, omega (arith, more-length (own_text x) (pair_text x) l.loop.k))
+    (omega arith, omega arith, omega (arith, more_length (own_text x) (pair_text x) l.loop.k))
 
 returns : tie.Need-returns invariant-loop decreases-loop
 unfolding task_text
