@@ -34,6 +34,7 @@ width_most n = omega (arith, (found n).upto)
 -- a number of at most k digits is no wider
 pub width_few : (n k : ℕ) → 1 ≤ k → n < 10 ^ k → width n ≤ k
 unfolding width
+width_few n zero l h = elim l [ ]
 width_few n (suc k) l h = go (dec_lt k (first_to 19 (tens n)))
   where
     go : Dec (k < first_to 19 (tens n)) → suc (first_to 19 (tens n)) ≤ suc k

@@ -15,14 +15,16 @@ long : (c : goal.After-fraction_len) → c.width_of-w.result + c.fraction_len.re
 long c = parts_length c.args.us c.width_of-w.ensures c.fraction_len.ensures
 
 pub overflow_add-n : goal.overflow_add-n
-overflow_add-n c = omega (arith, long c, time_length c.args.us (omega arith))
+overflow_add-n c = omega (arith, long (goal.at.overflow_add-n c).After-fraction_len, time_length c.args.us (omega arith))
 
 pub returns-then-out-n : goal.returns-then-out-n
-returns-then-out-n c = let a = c.args in
-    put_short (time_text a.us) a.out.now (long c.before) c.if-out-n.true
+returns-then-out-n c =
+    let a = c.args in
+    put_short (time_text a.us) a.out.now (long (goal.at.returns-then-out-n c).After-fraction_len) c.if-out-n.true
 
 pub returns : goal.returns
-returns c = let us = c.args.us in
+returns c =
+    let us = c.args.us in
     let whole = count_filled _ c.width_of-w.ensures c.put_digits.ensures c.put_digits.auto.out in
     put_filled
     (parts_filled us c.width_of-w.result c.fraction_len.ensures
