@@ -1,0 +1,31 @@
+use mathlib.Core.Path.{◌≡◌, refl, ap, ◌∙◌}
+use Prim.Native.Nat.{ℕ, ◌-◌}
+use native.Mathlib.Omega.{arith}
+use borrow.Author.Rules.{rules}
+use Rattle.rounds.specs.Shares.{share_at, whole_of}
+use Rattle.rounds.proofs.PackLaws.{wholes, front_none, front_whole}
+use Rattle.rounds.proofs.wholes_of.Goals as goal
+
+pub loop-k-init : goal.loop-k-init
+loop-k-init c = (search rules, search rules, front_none (λ l. whole_of (share_at c.args.s l)) refl)
+
+pub part_of-requires : goal.part_of-requires
+part_of-requires c =
+    (c.requires.each c.loop-k.k c.loop-k-test.true).whole
+
+pub bounds-of-n : goal.bounds-of-n
+bounds-of-n c = omega arith
+
+pub loop-k-preserved : goal.loop-k-preserved
+loop-k-preserved c =
+    let k = c.loop-k.k in
+    let s = c.args.s in
+    let g = c.requires.each k (omega arith) in
+    (search rules, search rules, front_whole s k g c.loop-k.invariant.2 (omega arith) c.some-n.ensures c.part_of.ensures)
+
+pub returns : goal.returns
+returns c =
+    let l = c.loop-k in
+    let s = c.args.s in
+    let e : l.k ≡ s.n = omega arith in
+    record { row = record { few = omega arith; good = l.invariant.2.good }; are = λ t h. l.invariant.2.sum t h ∙ ap (λ (n : ℕ). wholes s n t) e }
