@@ -1,0 +1,15 @@
+use mathlib.Core.Path.{refl}
+use native.Mathlib.Omega.{arith}
+use Prim.Native.Nat.{◌-◌}
+use Rattle.theory.specs.View.{is_above}
+use Rattle.shares.proofs.EachLaws.{each_none, each_more, each_all}
+use Rattle.shares.proofs.high.Goals as goal
+
+pub loop-k-init : goal.loop-k-init
+loop-k-init c = each_none _ _ _ _ refl
+
+pub loop-k-preserved : goal.loop-k-preserved
+loop-k-preserved c = each_more c.loop-k.invariant (omega arith) _ _ refl c.is_above.ensures _ refl
+
+pub returns : goal.returns
+returns c = record { each = each_all c.loop-k.invariant (omega arith) }

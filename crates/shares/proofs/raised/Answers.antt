@@ -1,0 +1,14 @@
+use mathlib.Core.Path.{refl}
+use native.Mathlib.Omega.{arith}
+use Prim.Native.Nat.{◌-◌}
+use Rattle.shares.proofs.EachLaws.{each_none, each_more, each_all}
+use Rattle.shares.proofs.raised.Goals as goal
+
+pub loop-k-init : goal.loop-k-init
+loop-k-init c = each_none _ _ _ _ refl
+
+pub loop-k-preserved : goal.loop-k-preserved
+loop-k-preserved c = each_more c.loop-k.invariant (omega arith) _ _ refl c.larger.ensures _ refl
+
+pub returns : goal.returns
+returns c = record { each = each_all c.loop-k.invariant (omega arith) }
