@@ -8,6 +8,7 @@ use native.Mathlib.Omega.{arith}
 use native.Mathlib.Nat.{zero-add}
 use lib.ListN.{length}
 use Rattle.basics.specs.Text.{bytes, line_of}
+use Rattle.table.specs.declared.Resource.{Resource}
 use Rattle.table.specs.declared.Table.{Table}
 use Rattle.table.specs.declared.Refusal.{Refusal}
 use Rattle.table.specs.declared.Checked.TheVariants.{Refused}
@@ -29,7 +30,7 @@ use Rattle.meaning.specs.Refusals.{last_group, left_by, line_count, next_line}
 use Rattle.meaning.proofs.SplitLaws.{Start, start_of, no_line_of, no_lines_lem, line_split, word_text_lem}
 use Rattle.meaning.proofs.SaysLaws.{says_cpus}
 use Rattle.meaning.proofs.TableLaws.{stored}
-use Rattle.meaning.proofs.StatesRead.{read_text, line_read, past_groups, groups_left, groups_read, tasks_read, past_after_lem, past_all}
+use Rattle.meaning.proofs.StatesRead.{read_text, line_read, past_tasks, past_groups, groups_left, groups_read, tasks_read, past_after_lem, past_all}
 use Rattle.meaning.proofs.ReadStates.{Stops, at_end, at_line, Stating, no_own}
 use Rattle.meaning.proofs.HeadStates.{Head, heads_to}
 
@@ -49,17 +50,20 @@ no_uses (StatesUses.by_use_line a r) (GoodUses.one_use x y g z q) e = absurd (om
 cpus_states : {s l : List ℕ} {ls : List (List ℕ)} (a : Start s l ls) (M : ℕ) → form (bytes "cpus") 2 l ≡ true → CpusRules (count_in l 1) M
     → Head no_lines 2 a.rest → StatesUpTo s
 cpus_states {l = l} a M f r h =
-    let m : Stating (after_group no_lines (record { 0 = last_group 0 h.groups })) (2 + length h.groups) h.rest no_alpha = rw (groups_left 0 h.groups) at h.stating in
+    let K : Resource = record { 0 = last_group 0 h.groups } in
+    let m : Stating (after_group no_lines K) (2 + length h.groups) h.rest no_alpha = rw (groups_left 0 h.groups) at h.stating in
     let n = no_uses m.states_uses m.good_uses refl in
     let line = line_of "cpus" (fields_from 1 0 (others l)) in
     let g : Figures = record { M = M; groups = h.groups; tasks = m.tasks } in
     let e : 2 + length h.groups + line_count m.tasks ≡ next_line g = omega arith in
+    let stops : Stops (past_tasks (after_group no_lines K) m.tasks) (2 + length h.groups + line_count m.tasks) m.left =
+        rw (n.1, zero-add (line_count m.tasks)) at m.stops in
     stops_later (line ++ (h.first ++ m.second)) m.left g
     (a.text ∙ word_text_lem a.rest (form_line "cpus" 1 l a.clean f)
     ∙ rw (h.text, no_own m, n.0, append_assoc line (h.first ++ m.second) m.left, append_assoc h.first m.second m.left))
     (by_cpus_line (count_in_lem (others_alone l 0) r.field) h.states m.states_tasks)
     (record { cpus_least = r.least; cpus_most = r.most; groups = h.good; tasks_most = omega (arith, m.few); tasks = m.good_tasks })
-    (rw (← past_after_lem _ m.tasks, ← e) (rw (n.1, zero-add (line_count m.tasks)) at m.stops))
+    (rw (past_after_lem K m.tasks, e) at stops)
 
 pub states_up_to : (s : List ℕ) → StatesUpTo s
 unfolding past_after

@@ -42,8 +42,8 @@ use Rattle.release.proofs.Parts.{part_of_lem, parts_joined, block_bytes, whole_b
 -- ---- the archive of an accepted table without groups
 
 -- its groups are those of a card
-no_groups : (t : Table) → NoGroup t → no_groups ≡ row_to max_resources (group_at t)
-no_groups t z = row_is max_resources (group_at t) 0 no_groups (length-replicate {A = ℕ} max_resources 0) (λ k h. get_or-replicate max_resources k 0 0 h ∙ sym (z k h))
+no_groups_lem : (t : Table) → NoGroup t → no_groups ≡ row_to max_resources (group_at t)
+no_groups_lem t z = row_is max_resources (group_at t) 0 no_groups (length-replicate {A = ℕ} max_resources 0) (λ k h. get_or-replicate max_resources k 0 0 h ∙ sym (z k h))
 
 module _ (t : Table) (e : table_fault t ≡ Fine) (z : NoGroup t) where
   good : Accepted t
@@ -80,7 +80,7 @@ module _ (t : Table) (e : table_fault t ≡ Fine) (z : NoGroup t) where
       rw (
         whole_blocks whole,
         head_at 0 good.tasks_least,
-        no_groups t z,
+        no_groups_lem t z,
         row_eq max_tasks _ (λ i. pick (ltb i t.n) (cleared_task (task_at (without_alpha t) i)) empty_task)
             (λ i h. pick_when empty_task (ltb i t.n) (λ l. ap task_in (block_at_lem i (ltb-true _ _ l)) ∙ task_back (head_for t i) (task_at t i) (fits i (ltb-true _ _ l)) ∙ ap cleared_task (sym (without_at t i)))),
       )
