@@ -3,7 +3,6 @@
 
 use block::SIZE;
 use console::Input;
-use libc::{STDERR_FILENO, STDOUT_FILENO};
 use refusal::Source;
 use table::{Table, Written};
 
@@ -12,23 +11,20 @@ mod bytes;
 // The longest archive.
 const MAX_ARCHIVE: usize = Table::MAX_TASKS * SIZE;
 
-fn main() {
+fn main(rt: HostRuntime) {
     // one byte past the limit, to know that a listing is too long
     let mut space = [0u8; Table::MAX_LISTING + 1];
-    let Input::Got(n) = console::read_input(&mut space) else {
-        io::write_all(STDERR_FILENO, b"archive: the input could not be read\n");
+    let Input::Got(n) = console::read_input(&mut rt.stdin(), &mut space) else {
+        console::write_all(&rt.stderr(), b"archive: the input could not be read\n");
         return;
     };
     let mut out = [0u8; MAX_ARCHIVE];
     match bytes::archive(&space[..n], &mut out) {
         Written::Wrote(length) => {
-            if !io::write_all(STDOUT_FILENO, &out[..length]) {
-                io::write_all(
-                    STDERR_FILENO,
-                    b"archive: the archive could not be written\n",
-                );
+            if !console::write_all(&rt.stdout(), &out[..length]) {
+                console::write_all(&rt.stderr(), b"archive: the archive could not be written\n");
             }
         }
-        Written::NotWritten(r) => console::say_refusal(Source::Listing, r),
+        Written::NotWritten(r) => console::say_refusal(&rt.stderr(), Source::Listing, r),
     }
 }

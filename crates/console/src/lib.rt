@@ -4,8 +4,8 @@
 ghost use Rattle.std.specs.Prelude.{◌≡◌, ℕ, ◌≤◌, length};
 ghost use Rattle.console.specs.declared.Input.TheVariants.{Got};
 
-use libc::{STDERR_FILENO, STDIN_FILENO};
 use refusal::Source;
+use std::io::Read;
 use table::Refusal;
 
 // What standard input held: so many bytes; or a read failed, which is not the end of the input.
@@ -16,30 +16,30 @@ pub enum Input {
 }
 
 // Reads until the input ends or buf is full. What a call of the system reads no contract can say: only that it is within buf.
-pub fn read_input(buf: &mut [u8]) -> Input
+pub fn read_input<R: Read>(input: &mut R, buf: &mut [u8]) -> Input
     ensures { (n : ℕ) → result ≡ Got n → n ≤ length buf.new }
 {
     let mut done: usize = 0;
     while done < buf.len() {
-        let got = libc::read(STDIN_FILENO, &mut buf[done..]);
-        if got < 0 {
+        let Ok(more) = input.read(&mut buf[done..]) else {
             return Input::Failed;
-        }
-        if got == 0 {
-            return Input::Got(done);
-        }
-        let more = io::count(got, &buf[done..]);
+        };
         if more == 0 {
-            return Input::Failed;
+            return Input::Got(done);
         }
         done += more;
     }
     Input::Got(done)
 }
 
+// Writes all of the bytes; whether that was done. Where it failed some may have been written.
+pub fn write_all<P: Print>(out: &P, bytes: &[u8]) -> bool {
+    out.write_all(bytes).is_ok()
+}
+
 // The line of a refusal, to standard error.
-pub fn say_refusal(source: Source, r: Refusal) {
+pub fn say_refusal<P: Print>(out: &P, source: Source, r: Refusal) {
     let mut line = [0u8; 64];
     let n = refusal::put_refusal(&mut line, source, r).length();
-    io::write_all(STDERR_FILENO, &line[..n]);
+    write_all(out, &line[..n]);
 }

@@ -2,25 +2,21 @@
 #![tactic(auto)]
 
 use console::Input;
-use libc::{STDERR_FILENO, STDOUT_FILENO};
 
 mod text;
 
-fn main() {
+fn main(rt: HostRuntime) {
     // one byte past the limit, to know that a card is too long
     let mut space = [0u8; text::CARD + 1];
-    let Input::Got(n) = console::read_input(&mut space) else {
-        io::write_all(STDERR_FILENO, b"salvage: the input could not be read\n");
+    let Input::Got(n) = console::read_input(&mut rt.stdin(), &mut space) else {
+        console::write_all(&rt.stderr(), b"salvage: the input could not be read\n");
         return;
     };
     let mut out = [0u8; text::CARD];
     let mut told = [0u8; text::TOLD];
     let made = text::salvage(&space[..n], &mut out, &mut told);
-    io::write_all(STDERR_FILENO, &told[..made.told]);
-    if !io::write_all(STDOUT_FILENO, &out[..made.archive]) {
-        io::write_all(
-            STDERR_FILENO,
-            b"salvage: the archive could not be written\n",
-        );
+    console::write_all(&rt.stderr(), &told[..made.told]);
+    if !console::write_all(&rt.stdout(), &out[..made.archive]) {
+        console::write_all(&rt.stderr(), b"salvage: the archive could not be written\n");
     }
 }

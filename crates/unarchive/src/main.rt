@@ -3,7 +3,6 @@
 
 use block::SIZE;
 use console::Input;
-use libc::{STDERR_FILENO, STDOUT_FILENO};
 use refusal::Source;
 use table::{Table, Written};
 
@@ -12,23 +11,23 @@ mod bytes;
 // The longest archive.
 const MAX_ARCHIVE: usize = Table::MAX_TASKS * SIZE;
 
-fn main() {
+fn main(rt: HostRuntime) {
     // one byte past it, to know that an archive is too long
     let mut space = [0u8; MAX_ARCHIVE + 1];
-    let Input::Got(n) = console::read_input(&mut space) else {
-        io::write_all(STDERR_FILENO, b"unarchive: the input could not be read\n");
+    let Input::Got(n) = console::read_input(&mut rt.stdin(), &mut space) else {
+        console::write_all(&rt.stderr(), b"unarchive: the input could not be read\n");
         return;
     };
     let mut out = [0u8; writing::MAX_TEXT];
     match bytes::unarchive(&space[..n], &mut out) {
         Written::Wrote(length) => {
-            if !io::write_all(STDOUT_FILENO, &out[..length]) {
-                io::write_all(
-                    STDERR_FILENO,
+            if !console::write_all(&rt.stdout(), &out[..length]) {
+                console::write_all(
+                    &rt.stderr(),
                     b"unarchive: the listing could not be written\n",
                 );
             }
         }
-        Written::NotWritten(r) => console::say_refusal(Source::Card, r),
+        Written::NotWritten(r) => console::say_refusal(&rt.stderr(), Source::Card, r),
     }
 }

@@ -1,0 +1,28 @@
+-- `archive::main` is safe and returns: what `read_input` counts is in `space`, and what `archive` counts is in `out`. Assumes nothing.
+use Prim.Native.Nat.{◌≤◌}
+use mathlib.Core.Path.{sym, ◌∙◌}
+use native.Mathlib.Omega.{arith}
+use lib.ListN.{length}
+use lib.Seq.{length-take-le}
+use Rattle.archive.proofs.Fits.{archive_fits}
+use Rattle.archive.proofs.main.Goals as goal
+use Rattle.archive.proofs.main.Goals.{In-Got, In-Wrote}
+
+read : (c : goal.In-Got) → c.in-Got.n ≤ length c.read_input.new.buf
+read c = c.read_input.ensures _ c.in-Got.is
+
+made : (c : goal.In-Wrote) → c.in-Wrote.length ≤ length c.archive.new.out
+made c =
+    omega (arith, archive_fits _ _ (sym c.archive.ensures.0 ∙ c.in-Wrote.is), c.archive.auto.out)
+
+pub slice_bounds-space-end : goal.slice_bounds-space-end
+slice_bounds-space-end c = read (goal.at.slice_bounds-space-end c).In-Got
+
+pub slice_bounds-archive-end : goal.slice_bounds-archive-end
+slice_bounds-archive-end c = sym (length-take-le _ _ (read (goal.at.slice_bounds-archive-end c).In-Got))
+
+pub slice_bounds-out-end : goal.slice_bounds-out-end
+slice_bounds-out-end c = made (goal.at.slice_bounds-out-end c).In-Wrote
+
+pub slice_bounds-write_all-end-in-Wrote : goal.slice_bounds-write_all-end-in-Wrote
+slice_bounds-write_all-end-in-Wrote c = sym (length-take-le _ _ (made (goal.at.slice_bounds-write_all-end-in-Wrote c).In-Wrote))
