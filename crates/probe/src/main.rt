@@ -5,8 +5,9 @@
 ghost use Rattle.std.specs.Prelude.{◌≤◌, length};
 
 use analysis::{Answer, Record};
-use libc::{STDIN_FILENO, STDOUT_FILENO};
+use console::Input;
 use put::Put;
+use std::io::Stdout;
 use table::{Checked, Level, Pair, Reading, Refusal, Table, Task, Written};
 use theory::{Counted, Verdict};
 use waits::{Waiting, Waits};
@@ -120,56 +121,56 @@ fn table_of(s: &[u8]) -> Table {
     t
 }
 
-fn say(s: &[u8]) {
-    io::write_all(STDOUT_FILENO, s);
+fn say(to: &Stdout, s: &[u8]) {
+    to.write_all(s).is_ok();
 }
 
-fn say_number(n: u32) {
-    io::print_decimal(STDOUT_FILENO, n as u64);
+fn say_number(to: &Stdout, n: u32) {
+    to.print(n).is_ok();
 }
 
-fn say_refusal(r: Refusal) {
+fn say_refusal(to: &Stdout, r: Refusal) {
     let fault = r.fault;
-    say(b"refused ");
-    say_number(fault.number());
-    say(b" place ");
-    say_number(r.place);
-    say(b"\n");
+    say(to, b"refused ");
+    say_number(to, fault.number());
+    say(to, b" place ");
+    say_number(to, r.place);
+    say(to, b"\n");
 }
 
-fn say_checked(c: Checked) {
+fn say_checked(to: &Stdout, c: Checked) {
     match c {
-        Checked::Fine => say(b"fine\n"),
-        Checked::Refused(r) => say_refusal(r),
+        Checked::Fine => say(to, b"fine\n"),
+        Checked::Refused(r) => say_refusal(to, r),
     }
 }
 
-fn say_rounds(rounds: u32) {
-    say(b" rounds ");
-    say_number(rounds);
-    say(b"\n");
+fn say_rounds(to: &Stdout, rounds: u32) {
+    say(to, b" rounds ");
+    say_number(to, rounds);
+    say(to, b"\n");
 }
 
-fn say_counted(x: Counted) {
+fn say_counted(to: &Stdout, x: Counted) {
     let v = x.verdict;
     match v {
         Verdict::Meets(t) => {
-            say(b"meets ");
-            say_number(t);
+            say(to, b"meets ");
+            say_number(to, t);
         }
-        Verdict::Misses => say(b"misses"),
-        Verdict::Open => say(b"open"),
+        Verdict::Misses => say(to, b"misses"),
+        Verdict::Open => say(to, b"open"),
     }
-    say_rounds(x.rounds);
+    say_rounds(to, x.rounds);
 }
 
 // Entry point 1: `check`, which takes no argument.
-fn check(t: Table, argument: u32) {
+fn check(to: &Stdout, t: Table, argument: u32) {
     if 0 < argument {
-        say(b"bad argument\n");
+        say(to, b"bad argument\n");
         return;
     }
-    say_checked(checking::check(t));
+    say_checked(to, checking::check(t));
 }
 
 // What a record of the row holds before it is lent.
@@ -202,274 +203,288 @@ fn lend(t: Table, allowance: u32, rows: [Record; ROWS], room: usize) -> Lent
     Lent { answer, rows: row }
 }
 
-fn say_rows(l: Lent) {
+fn say_rows(to: &Stdout, l: Lent) {
     let mut i: usize = 0;
     while i < ROWS {
         let x = l.rows[i];
         let verdict = x.verdict;
-        say_number(x.task.0);
-        say(b" ");
-        say_counted(Counted {
-            verdict,
-            rounds: x.rounds,
-        });
+        say_number(to, x.task.0);
+        say(to, b" ");
+        say_counted(
+            to,
+            Counted {
+                verdict,
+                rounds: x.rounds,
+            },
+        );
         i += 1;
     }
 }
 
 // Entry point 3: `analyse`, with a row of so many records.
-fn analyse(t: Table, allowance: u32, room: u32) {
+fn analyse(to: &Stdout, t: Table, allowance: u32, room: u32) {
     if ROWS < room as usize {
-        say(b"bad row\n");
+        say(to, b"bad row\n");
         return;
     }
     let l = lend(t, allowance, marks(), room as usize);
     let answer = l.answer;
-    say_checked(answer);
-    say_rows(l);
+    say_checked(to, answer);
+    say_rows(to, l);
 }
 
 // Entry point 2: `bound`, of a task.
-fn bound(t: Table, task: u32, allowance: u32) {
+fn bound(to: &Stdout, t: Table, task: u32, allowance: u32) {
     let answer = analysis::bound(t, Level(task), allowance);
     match answer {
-        Answer::Known(x) => say_counted(x),
-        Answer::Unknown(r) => say_refusal(r),
+        Answer::Known(x) => say_counted(to, x),
+        Answer::Unknown(r) => say_refusal(to, r),
     }
 }
 
 // A wait, on a line.
-fn say_wait(us: u64) {
-    io::print_decimal(STDOUT_FILENO, us);
-    say(b"\n");
+fn say_wait(to: &Stdout, us: u64) {
+    to.print(us).is_ok();
+    say(to, b"\n");
 }
 
-fn say_waits(w: Waits) {
+fn say_waits(to: &Stdout, w: Waits) {
     let answer = w.answer;
-    say_checked(answer);
+    say_checked(to, answer);
     if w.given {
-        say(b"alpha\n");
+        say(to, b"alpha\n");
     } else {
-        say(b"no alpha\n");
+        say(to, b"no alpha\n");
     }
     let mut i: usize = 0;
     while i < Table::MAX_TASKS {
-        say_wait(w.of[i]);
+        say_wait(to, w.of[i]);
         i += 1;
     }
 }
 
 // Entry point 10: `wait`, of a task.
-fn wait(t: Table, task: u32) {
+fn wait(to: &Stdout, t: Table, task: u32) {
     let answer = waits::wait(t, Level(task));
     match answer {
         Waiting::For(us) => {
-            say(b"wait ");
-            say_wait(us);
+            say(to, b"wait ");
+            say_wait(to, us);
         }
-        Waiting::NoAlpha => say(b"no alpha\n"),
-        Waiting::Unknown(r) => say_refusal(r),
+        Waiting::NoAlpha => say(to, b"no alpha\n"),
+        Waiting::Unknown(r) => say_refusal(to, r),
     }
 }
 
 // Entry point 11: `wait_all`, which takes no argument.
-fn wait_all(t: Table, argument: u32) {
+fn wait_all(to: &Stdout, t: Table, argument: u32) {
     if 0 < argument {
-        say(b"bad argument\n");
+        say(to, b"bad argument\n");
         return;
     }
-    say_waits(waits::wait_all(t));
+    say_waits(to, waits::wait_all(t));
 }
 
 // A number, after a space.
-fn say_next(n: u32) {
-    say(b" ");
-    say_number(n);
+fn say_next(to: &Stdout, n: u32) {
+    say(to, b" ");
+    say_number(to, n);
 }
 
-fn say_pair(p: Pair) {
-    say_next(p.requests);
-    say_next(p.longest);
-    say_next(p.total);
+fn say_pair(to: &Stdout, p: Pair) {
+    say_next(to, p.requests);
+    say_next(to, p.longest);
+    say_next(to, p.total);
 }
 
 // T, C, D, alpha and the pairs of a task, on a line.
-fn say_task(x: Task) {
-    say_number(x.period);
-    say_next(x.run);
-    say_next(x.deadline);
-    say_next(x.alpha);
+fn say_task(to: &Stdout, x: Task) {
+    say_number(to, x.period);
+    say_next(to, x.run);
+    say_next(to, x.deadline);
+    say_next(to, x.alpha);
     let mut k: usize = 0;
     while k < Table::MAX_RESOURCES {
-        say_pair(x.pairs[k]);
+        say_pair(to, x.pairs[k]);
         k += 1;
     }
-    say(b"\n");
+    say(to, b"\n");
 }
 
-fn say_tasks(t: Table) {
+fn say_tasks(to: &Stdout, t: Table) {
     let n = t.n;
     let mut i: usize = 0;
     while i < Table::MAX_TASKS {
         if i < n {
-            say_task(t.tasks[i]);
+            say_task(to, t.tasks[i]);
         }
         i += 1;
     }
 }
 
 // Entry point 13: `merge`, which takes no argument. The table of a refused one has no task.
-fn merge(t: Table, argument: u32) {
+fn merge(to: &Stdout, t: Table, argument: u32) {
     if 0 < argument {
-        say(b"bad argument\n");
+        say(to, b"bad argument\n");
         return;
     }
     let r = merging::merge(t);
     let answer = r.answer;
-    say_checked(answer);
-    say_tasks(r.table);
+    say_checked(to, answer);
+    say_tasks(to, r.table);
 }
 
-fn say_wrote(k: usize) {
-    say(b"wrote ");
-    io::print_decimal(STDOUT_FILENO, k as u64);
-    say(b"\n");
+fn say_wrote(to: &Stdout, k: usize) {
+    say(to, b"wrote ");
+    to.print(k).is_ok();
+    say(to, b"\n");
 }
 
-fn say_written(w: Written) {
+fn say_written(to: &Stdout, w: Written) {
     match w {
-        Written::Wrote(k) => say_wrote(k),
-        Written::NotWritten(r) => say_refusal(r),
+        Written::Wrote(k) => say_wrote(to, k),
+        Written::NotWritten(r) => say_refusal(to, r),
     }
 }
 
-fn say_put(p: Put) {
+fn say_put(to: &Stdout, p: Put) {
     match p {
-        Put::Wrote(k) => say_wrote(k),
-        Put::Short => say(b"short\n"),
+        Put::Wrote(k) => say_wrote(to, k),
+        Put::Short => say(to, b"short\n"),
     }
 }
 
 // The front of an output, lent to a writer; then the answer, and all of the output.
-fn write_into(t: Table, out: &mut [u8], room: usize)
+fn write_into(to: &Stdout, t: Table, out: &mut [u8], room: usize)
     requires { room ≤ length out.old }
 {
-    say_written(writing::write(t, &mut out[..room]));
-    say(out);
+    say_written(to, writing::write(t, &mut out[..room]));
+    say(to, out);
 }
 
-fn archive_into(t: Table, out: &mut [u8], room: usize)
+fn archive_into(to: &Stdout, t: Table, out: &mut [u8], room: usize)
     requires { room ≤ length out.old }
 {
-    say_written(card::write(t, &mut out[..room]));
-    say(out);
+    say_written(to, card::write(t, &mut out[..room]));
+    say(to, out);
 }
 
-fn time_into(us: u32, out: &mut [u8], room: usize)
+fn time_into(to: &Stdout, us: u32, out: &mut [u8], room: usize)
     requires { room ≤ length out.old }
 {
-    say_put(put::put_time(&mut out[..room], us));
-    say(out);
+    say_put(to, put::put_time(&mut out[..room], us));
+    say(to, out);
 }
 
-fn count_into(n: u64, out: &mut [u8], room: usize)
+fn count_into(to: &Stdout, n: u64, out: &mut [u8], room: usize)
     requires { room ≤ length out.old }
 {
-    say_put(put::put_count(&mut out[..room], n));
-    say(out);
+    say_put(to, put::put_count(&mut out[..room], n));
+    say(to, out);
 }
 
 // The fronts of a list and of an output, lent to the tool for cards with bad blocks; then the answer, all of the list, and all of the output.
-fn salvage_into(input: &[u8], list: &mut [u8], entries: usize, out: &mut [u8], room: usize)
+fn salvage_into(
+    to: &Stdout,
+    input: &[u8],
+    list: &mut [u8],
+    entries: usize,
+    out: &mut [u8],
+    room: usize,
+)
     requires { (entries ≤ length list.old) × (room ≤ length out.old) }
 {
-    say_written(salvaging::salvage(input, &mut list[..entries], &mut out[..room]));
-    say(list);
-    say(out);
+    say_written(
+        to,
+        salvaging::salvage(input, &mut list[..entries], &mut out[..room]),
+    );
+    say(to, list);
+    say(to, out);
 }
 
 // Entry point 4: `writing::write`, with an output of so many bytes.
-fn write(t: Table, room: u32) {
+fn write(to: &Stdout, t: Table, room: u32) {
     if OUTPUT < room as usize {
-        say(b"bad output\n");
+        say(to, b"bad output\n");
         return;
     }
     let mut out = [b'#'; OUTPUT];
-    write_into(t, &mut out, room as usize);
+    write_into(to, t, &mut out, room as usize);
 }
 
 // Entry point 6: `card::write`, with an output of so many bytes.
-fn archive(t: Table, room: u32) {
+fn archive(to: &Stdout, t: Table, room: u32) {
     if OUTPUT < room as usize {
-        say(b"bad output\n");
+        say(to, b"bad output\n");
         return;
     }
     let mut out = [b'#'; OUTPUT];
-    archive_into(t, &mut out, room as usize);
+    archive_into(to, t, &mut out, room as usize);
 }
 
 // Entry point 8: `put::put_time`, with an output of so many bytes.
-fn put_time(us: u32, room: u32) {
+fn put_time(to: &Stdout, us: u32, room: u32) {
     if OUTPUT < room as usize {
-        say(b"bad output\n");
+        say(to, b"bad output\n");
         return;
     }
     let mut out = [b'#'; OUTPUT];
-    time_into(us, &mut out, room as usize);
+    time_into(to, us, &mut out, room as usize);
 }
 
 // Entry point 12: `put::put_count`, with an output of so many bytes.
-fn put_count(n: u64, room: u32) {
+fn put_count(to: &Stdout, n: u64, room: u32) {
     if OUTPUT < room as usize {
-        say(b"bad output\n");
+        say(to, b"bad output\n");
         return;
     }
     let mut out = [b'#'; OUTPUT];
-    count_into(n, &mut out, room as usize);
+    count_into(to, n, &mut out, room as usize);
 }
 
 // What a reader answers; then `writing::write` of the table that it gives.
-fn say_reading(r: Reading) {
+fn say_reading(to: &Stdout, r: Reading) {
     let answer = r.answer;
-    say_checked(answer);
-    write(r.table, OUTPUT as u32);
+    say_checked(to, answer);
+    write(to, r.table, OUTPUT as u32);
 }
 
 // Entry point 5: `listing::read`, of a listing of so many bytes.
-fn read(s: &[u8], length: u32) {
+fn read(to: &Stdout, s: &[u8], length: u32) {
     if s.len() < INPUT + length as usize {
-        say(b"bad listing\n");
+        say(to, b"bad listing\n");
         return;
     }
-    say_reading(listing::read(&s[INPUT..INPUT + length as usize]));
+    say_reading(to, listing::read(&s[INPUT..INPUT + length as usize]));
 }
 
 // Entry point 7: `card::read`, of an archive of so many bytes.
-fn unarchive(s: &[u8], length: u32) {
+fn unarchive(to: &Stdout, s: &[u8], length: u32) {
     if s.len() < INPUT + length as usize {
-        say(b"bad archive\n");
+        say(to, b"bad archive\n");
         return;
     }
-    say_reading(card::read(&s[INPUT..INPUT + length as usize]));
+    say_reading(to, card::read(&s[INPUT..INPUT + length as usize]));
 }
 
 // Entry point 9: `salvaging::salvage`, of a card of so many bytes, with a list of so many entries and an output of so many bytes.
-fn salvage(s: &[u8], length: u32, entries: u32, room: u32) {
+fn salvage(to: &Stdout, s: &[u8], length: u32, entries: u32, room: u32) {
     if s.len() < CARD + length as usize {
-        say(b"bad card\n");
+        say(to, b"bad card\n");
         return;
     }
     if LIST < entries as usize {
-        say(b"bad list\n");
+        say(to, b"bad list\n");
         return;
     }
     if MENDED < room as usize {
-        say(b"bad output\n");
+        say(to, b"bad output\n");
         return;
     }
     let mut list = [b'#'; LIST];
     let mut out = [b'#'; MENDED];
     salvage_into(
+        to,
         &s[CARD..CARD + length as usize],
         &mut list,
         entries as usize,
@@ -478,29 +493,33 @@ fn salvage(s: &[u8], length: u32, entries: u32, room: u32) {
     );
 }
 
-fn main() {
+fn main(rt: HostRuntime) {
+    let to = &rt.stdout();
     let mut space = [0u8; BYTES];
-    let n = io::read_full(STDIN_FILENO, &mut space);
+    let Input::Got(n) = console::read_input(&mut rt.stdin(), &mut space) else {
+        say(to, b"bad request\n");
+        return;
+    };
     if n < BYTES {
-        say(b"bad request\n");
+        say(to, b"bad request\n");
         return;
     }
     let t = table_of(&space);
     let argument = word(&space, 1);
     match word(&space, 0) {
-        1 => check(t, argument),
-        2 => bound(t, argument, word(&space, ALLOWANCE)),
-        3 => analyse(t, word(&space, ALLOWANCE), argument),
-        4 => write(t, argument),
-        5 => read(&space, argument),
-        6 => archive(t, argument),
-        7 => unarchive(&space, argument),
-        8 => put_time(word(&space, 2), argument),
-        9 => salvage(&space, argument, word(&space, 2), word(&space, 3)),
-        10 => wait(t, argument),
-        11 => wait_all(t, argument),
-        12 => put_count(long_at(&space, 2), argument),
-        13 => merge(t, argument),
-        _ => say(b"bad request\n"),
+        1 => check(to, t, argument),
+        2 => bound(to, t, argument, word(&space, ALLOWANCE)),
+        3 => analyse(to, t, word(&space, ALLOWANCE), argument),
+        4 => write(to, t, argument),
+        5 => read(to, &space, argument),
+        6 => archive(to, t, argument),
+        7 => unarchive(to, &space, argument),
+        8 => put_time(to, word(&space, 2), argument),
+        9 => salvage(to, &space, argument, word(&space, 2), word(&space, 3)),
+        10 => wait(to, t, argument),
+        11 => wait_all(to, t, argument),
+        12 => put_count(to, long_at(&space, 2), argument),
+        13 => merge(to, t, argument),
+        _ => say(to, b"bad request\n"),
     }
 }

@@ -1,2 +1,0 @@
--- Laws of the walk by hand of `lend`.
-pub mod Lies
