@@ -20,7 +20,7 @@ use Rattle.table.specs.declared.Table.{Table}
 use Rattle.table.specs.Limits.{max_tasks, max_resources}
 use Rattle.table.specs.Empty.{empty_task}
 use Rattle.table.specs.At.{no_task, NoAlpha, NoGroup}
-use Rattle.table.specs.Faults.{◌then◌, unless}
+use Rattle.table.specs.Faults.{unless}
 use Rattle.table.specs.Rules.{table_fault}
 use Rattle.table.specs.Answers.{accepted, or_table}
 use Rattle.table.proofs.FirstLaws.{then_fine}

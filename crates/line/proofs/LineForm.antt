@@ -1,6 +1,6 @@
 -- The line of a word and fields has the form (specs/Stated.antt): `line_form`, the other way round from `form_line`.
 -- Assumes nothing.
-use Prim.Native.Nat.{ℕ, suc, ◌+◌, ◌≤◌}
+use Prim.Native.Nat.{ℕ, suc, ◌≤◌}
 use Prim.Native.String.{String}
 use mathlib.Core.Path.{◌≡◌, refl, sym, ap, ◌∙◌}
 use mathlib.Core.Bool.{Bool, true, false}
@@ -13,7 +13,7 @@ use Rattle.basics.specs.Choice.{pick}
 use Rattle.basics.specs.Text.{bytes, ending}
 use Rattle.basics.proofs.ChoiceLaws.{and_true}
 use Rattle.field.specs.Number.{apart, first, ends}
-use Rattle.line.specs.Fields.{others, fields, filled, field_count, same, form}
+use Rattle.line.specs.Fields.{others, filled, field_count, same, form}
 use Rattle.line.specs.Stated.{Without, no_byte, one_byte, IsField, AreFields, none, more, IsLine}
 use Rattle.line.proofs.WordLaws.{field_in, field_alone}
 

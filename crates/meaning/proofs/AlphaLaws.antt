@@ -1,16 +1,16 @@
 -- The alphas of figures that obey the rules, as the table holds them: how many there are, and that they never rise.
 -- Assumes nothing.
-use Prim.Native.Nat.{ℕ, zero, suc, ◌+◌, ◌≤◌, ◌<◌}
+use Prim.Native.Nat.{ℕ, zero, suc, ◌≤◌, ◌<◌}
 use mathlib.Core.Path.{◌≡◌, refl, ◌∙◌}
-use mathlib.Core.List.{List, [], ◌∷◌}
-use mathlib.Core.Logic.{◌⊎◌, inl, inr}
+use mathlib.Core.List.{List, ◌∷◌}
+use mathlib.Core.Logic.{inl, inr}
 use native.Mathlib.Omega.{arith}
 use lib.ListN.{length}
 use lib.Dec.{ltb}
 use borrow.Author.Tests.{lt-ltb}
 use Rattle.basics.specs.Choice.{only}
 use Rattle.basics.specs.Over.{sum_to, count_to}
-use Rattle.basics.proofs.SumLaws.{sum_none, sum_first}
+use Rattle.basics.proofs.SumLaws.{sum_first}
 use Rattle.table.specs.Limits.{max_alpha}
 use Rattle.meaning.specs.Figures.{AlphaFigure, no_alpha, alpha_of, TaskFigures, GoodAlpha, last_with, GoodTasks, alpha_lines, alphas_of, held_alpha, task_of, task_for}
 

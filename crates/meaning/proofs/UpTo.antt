@@ -57,7 +57,7 @@ cpus_states {l = l} a M f r h =
     let g : Figures = record { M = M; groups = h.groups; tasks = m.tasks } in
     let e : 2 + length h.groups + line_count m.tasks ≡ next_line g = omega arith in
     let stops : Stops (past_tasks (after_group no_lines K) m.tasks) (2 + length h.groups + line_count m.tasks) m.left =
-        rw (n.1, zero-add (line_count m.tasks)) at m.stops in
+    rw (n.1, zero-add (line_count m.tasks)) at m.stops in
     stops_later (line ++ (h.first ++ m.second)) m.left g
     (a.text ∙ word_text_lem a.rest (form_line "cpus" 1 l a.clean f)
     ∙ rw (h.text, no_own m, n.0, append_assoc line (h.first ++ m.second) m.left, append_assoc h.first m.second m.left))

@@ -1,6 +1,6 @@
 -- Where a table is no easier than another, no term of a task's demand is smaller, and so no bound.
 -- Assumes nothing.
-use Prim.Native.Nat.{ℕ, ◌-◌, ◌≤◌, ◌<◌}
+use Prim.Native.Nat.{ℕ, ◌≤◌, ◌<◌}
 use mathlib.Core.Path.{◌≡◌, refl, sym, ap, ◌∙◌}
 use mathlib.Core.Bool.{Bool, not}
 use native.Mathlib.Nat.{le_refl, le_trans, mul-le-mul}

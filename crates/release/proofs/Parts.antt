@@ -15,7 +15,7 @@ use Rattle.basics.proofs.JoinLaws.{join_none, join_more, join_at, join_even}
 use Rattle.table.specs.declared.Fault.TheVariants.{BadLength, BadBlock, Mismatch}
 use Rattle.table.specs.declared.Checked.TheVariants.{Fine}
 use Rattle.table.specs.Limits.{max_tasks}
-use Rattle.table.specs.Faults.{◌then◌, unless, first_fault}
+use Rattle.table.specs.Faults.{unless, first_fault}
 use Rattle.table.specs.Rules.{table_fault}
 use Rattle.table.proofs.FirstLaws.{then_fine, each_fine, first_fine}
 use Rattle.table.proofs.RuleLaws.{unless_fine}

@@ -1,6 +1,6 @@
 -- What a task runs in a window of a schedule, if its jobs meet their deadlines up to the window's end, is at most its workload.
 -- Assumes nothing.
-use Prim.Native.Nat.{ℕ, suc, ◌+◌, ◌-◌, ◌≤◌, ◌<◌}
+use Prim.Native.Nat.{ℕ, suc, ◌+◌, ◌≤◌, ◌<◌}
 use mathlib.Core.Path.{◌≡◌, refl}
 use mathlib.Core.Bool.{Bool, true, ◌&&◌}
 use native.Mathlib.Nat.{le_trans}

@@ -18,7 +18,7 @@ use Rattle.table.specs.declared.Fault.TheVariants.{OutOfRange, BadTimes, TooMany
 use Rattle.table.specs.declared.Checked.TheVariants.{Fine}
 use Rattle.table.specs.Limits.{max_cpus, max_tasks, max_resources, max_alpha}
 use Rattle.table.specs.At.{task_at, pair_of, total_of}
-use Rattle.table.specs.Faults.{◌then◌, unless}
+use Rattle.table.specs.Faults.{unless}
 use Rattle.table.specs.Rules.{times_in_range, times_in_order, all_or_none, may_follow, alpha_fault, pair_fault_of, pairs_fault, task_fault, alphas_to, last_alpha, task_fault_at, tasks_fault, table_fault, groups_in_range}
 use Rattle.table.specs.Accepted.{GoodTimes, GoodTo, GoodTask, Accepted}
 use Rattle.table.specs.Refusals.{RisesAt}

@@ -13,7 +13,7 @@ use Rattle.basics.proofs.ChoiceLaws.{or_neither}
 use Rattle.basics.proofs.CountLaws.{count_one, count_found, count_most, count_but, count_missed}
 use Rattle.table.specs.declared.Table.{Table}
 use Rattle.table.specs.At.{alpha_at}
-use Rattle.table.specs.Rules.{all_or_none, may_follow, has_alpha, alphas_to, next_alpha, last_alpha}
+use Rattle.table.specs.Rules.{all_or_none, may_follow, has_alpha, alphas_to, last_alpha}
 use Rattle.table.specs.Refusals.{SomeOnly, RisesAt}
 
 -- a test that fails exactly if a fact holds, holds exactly if that does not

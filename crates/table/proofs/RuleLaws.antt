@@ -11,7 +11,7 @@ use Rattle.table.specs.declared.Fault.TheVariants.{OutOfRange, BadTimes, BadTota
 use Rattle.table.specs.declared.Checked.TheVariants.{Fine}
 use Rattle.table.specs.Limits.{max_time, max_count}
 use Rattle.table.specs.Empty.{unused_pair}
-use Rattle.table.specs.Faults.{◌then◌, unless}
+use Rattle.table.specs.Faults.{unless}
 use Rattle.table.specs.Rules.{times_in_range, times_fault, used_in_range, pair_in_range, totals_fit, pair_fault}
 use Rattle.table.specs.Accepted.{GoodTimes, GoodPair}
 use Rattle.table.specs.Refusals.{TimesInRange, TimesInOrder, UsedInRange, PairInRange, TotalsFit}

@@ -1,5 +1,5 @@
 use Prim.Native.Nat.{ℕ, ◌<◌}
-use mathlib.Core.Path.{◌≡◌, sym, ap, ◌∙◌}
+use mathlib.Core.Path.{◌≡◌, ap, ◌∙◌}
 use mathlib.Core.List.{◌++◌}
 use native.Mathlib.Omega.{arith}
 use lib.ListN.{length, drop, set}
@@ -17,8 +17,7 @@ turn c =
     let i = c.loop-i.i in
     let n = c.todo-n.ensures in
     let room = count_room a.t a.allowance (length a.row.now) in
-    let most = count_most a.t a.allowance (length a.row.now) in
-    (
+    let most = count_most a.t a.allowance (length a.row.now) in (
       omega (arith, n, room, c.loop-i-test.true),
       omega (arith, n, most, c.loop-i-test.true),
       ap length c.loop-i.invariant.1 ∙ over_length (record_of a.t a.allowance) i a.row.now (omega (arith, n, room, c.loop-i-test.true)),
@@ -50,10 +49,9 @@ loop-i-preserved c =
 pub returns : goal.returns
 returns c =
     let a = c.args in
-    let e : c.loop-i.i ≡ c.todo-n.result = omega (arith, c.loop-i.invariant.0, c.loop-i-test.false) in
-    (
+    let e : c.loop-i.i ≡ c.todo-n.result = omega (arith, c.loop-i.invariant.0, c.loop-i-test.false) in (
       c.judge.ensures,
       c.loop-i.invariant.1
-      ∙ ap (λ (n : ℕ). row_to n (record_of a.t a.allowance) ++ drop n a.row.now) (e ∙ c.todo-n.ensures)
-      ∙ row_last a.t a.allowance a.row.now,
+          ∙ ap (λ (n : ℕ). row_to n (record_of a.t a.allowance) ++ drop n a.row.now) (e ∙ c.todo-n.ensures)
+          ∙ row_last a.t a.allowance a.row.now,
     )

@@ -60,8 +60,8 @@ unfolding analysis_fault
 fine_found c long =
     let a = c.args in
     let answered = c.judged-answer.ensures
-        ∙ ap (λ (own : Checked). own then allowance_fault a.allowance then row_fault a.t.n max_tasks) (read_own a.t c.merge-read.ensures)
-        ∙ ap (analysis_fault a.t a.allowance) (sym long) in
+    ∙ ap (λ (own : Checked). own then allowance_fault a.allowance then row_fault a.t.n max_tasks) (read_own a.t c.merge-read.ensures)
+    ∙ ap (analysis_fault a.t a.allowance) (sym long) in
     found a.t c.merge-read.result.table a.allowance a.rows long (sym answered ∙ c.in-Fine.is) (read_merged a.t c.merge-read.ensures)
 
 pub returns-in_default : goal.returns-in_default

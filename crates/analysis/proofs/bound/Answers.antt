@@ -30,7 +30,7 @@ fine : (c : goal.In_default) → let a = c.args in bound_fault a.t a.task a.allo
 unfolding bound_fault
 fine c =
     let said : let a = c.args in c.judge_task.result ≡ bound_fault a.t a.task a.allowance =
-        let a = c.args in
+    let a = c.args in
     c.judge_task.ensures ∙ ap (λ (own : Checked). own then asked_fault a.t.n a.task then allowance_fault a.allowance) (read_own a.t c.merge-read.ensures) in
     sym said ∙ c.in_default.is
 

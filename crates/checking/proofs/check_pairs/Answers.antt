@@ -1,7 +1,6 @@
 use borrow.Author.Rules.{rules}
 use mathlib.Core.Path.{◌≡◌, refl, sym, ◌∙◌}
 use native.Mathlib.Omega.{arith}
-use Prim.Native.Nat.{◌-◌}
 use Rattle.basics.specs.Over.{sum_to}
 use Rattle.basics.proofs.SumLaws.{sum_more}
 use Rattle.table.specs.Faults.{first_fault}

@@ -25,18 +25,18 @@ value : (c : goal.In-Value)
     ≡ Value c.in-Value.v c.in-Value.width
 value c =
     let read : c.field_as.result ≡ field_as c.args.kind (drop c.args.at c.args.line.now) =
-        let a = c.args in
+    let a = c.args in
     c.field_as.ensures ∙ ap (field_as a.kind) (whole_part a.line.now a.at) in
     sym read ∙ c.in-Value.is
 
 narrow : (c : goal.In-Value) → c.in-Value.width ≤ 12
 narrow c =
     let read : c.field_as.result ≡ field_as c.args.kind (drop c.args.at c.args.line.now) =
-        let a = c.args in
+    let a = c.args in
     c.field_as.ensures ∙ ap (field_as a.kind) (whole_part a.line.now a.at) in
     let value : field_as c.args.kind (drop c.args.at c.args.line.now)
     ≡ Value c.in-Value.v c.in-Value.width =
-        sym read ∙ c.in-Value.is in
+    sym read ∙ c.in-Value.is in
     let a = c.args in
     (as_width a.kind (drop a.at a.line.now) _ _ value).1
 

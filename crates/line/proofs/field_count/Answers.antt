@@ -1,4 +1,3 @@
-use Prim.Native.Nat.{◌-◌}
 use mathlib.Core.Path.{sym, ◌∙◌}
 use native.Mathlib.Omega.{arith}
 use Rattle.line.proofs.FormLaws.{tally_start, tally_gap, tally_next, tally_in, tally_end_gap, tally_end}

@@ -16,16 +16,16 @@ group : (c : goal.In-Number) → let s = c.args.line.now in
     States Count s 1 c.in-Number.group × Begins s 2 0 c.in-Number.k_at
 group c =
     let start : Begins c.args.line.now 1 1 6 =
-        form_second (bytes "group") 1 _ (lit≤ tt) c.requires in
+    form_second (bytes "group") 1 _ (lit≤ tt) c.requires in
     steps Count start c.field_at.ensures c.in-Number.is
 
 k : (c : goal.In-Number-field_at) → States Count c.args.line.now 2 c.in-Number-field_at.k
 k c =
     let start : Begins c.args.line.now 1 1 6 =
-        form_second (bytes "group") 1 _ (lit≤ tt) c.requires in
+    form_second (bytes "group") 1 _ (lit≤ tt) c.requires in
     let group : let s = c.args.line.now in
     States Count s 1 c.in-Number.group × Begins s 2 0 c.in-Number.k_at =
-        steps Count start c.field_at.ensures c.in-Number.is in
+    steps Count start c.field_at.ensures c.in-Number.is in
     states Count group.1 c.field_at-2.ensures c.in-Number-field_at.is
 
 pub returns-in_default : goal.returns-in_default

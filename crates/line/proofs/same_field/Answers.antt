@@ -1,10 +1,10 @@
-use Prim.Native.Nat.{◌-◌, ◌<◌}
+use Prim.Native.Nat.{◌<◌}
 use mathlib.Core.Path.{◌≡◌, refl, sym, ◌∙◌}
 use mathlib.Core.Bool.{false}
 use native.Mathlib.Omega.{arith}
 use lib.ListN.{length, drop}
 use Rattle.basics.proofs.ChoiceLaws.{stops, passes}
-use Rattle.field.specs.Number.{first, ends}
+use Rattle.field.specs.Number.{ends}
 use Rattle.line.proofs.FormLaws.{ends_in, same_end, same_longer, same_other, same_more}
 use Rattle.line.proofs.same_field.Goals as goal
 use Rattle.line.proofs.same_field.Goals.{Else-ends_at, In-loop-i}
@@ -22,7 +22,7 @@ more-w c = sym c.ends_at-in-loop-i.ensures ∙ c.if-ends_at.false
 in-s : (c : goal.In-loop-i) → c.loop-i.i < length c.args.s.now
 in-s c =
     let more-s : ends (drop c.loop-i.i c.args.s.now) ≡ false =
-        stops c.ends_at.ensures c.loop-i-test.true-raw in
+    stops c.ends_at.ensures c.loop-i-test.true-raw in
     ends_in _ _ more-s
 
 pub returns-then-ends_at : goal.returns-then-ends_at

@@ -16,30 +16,30 @@ period : (c : goal.In-Number) → let s = c.args.line.now in
     States TimeDown s 1 c.in-Number.period × Begins s 2 1 c.in-Number.run_at
 period c =
     let start : Begins c.args.line.now 1 2 5 =
-        form_second (bytes "task") 2 _ (lit≤ tt) c.requires in
+    form_second (bytes "task") 2 _ (lit≤ tt) c.requires in
     steps TimeDown start c.field_at.ensures c.in-Number.is
 
 run : (c : goal.In-Number-field_at) → let s = c.args.line.now in
     States TimeUp s 2 c.in-Number-field_at.run' × Begins s 3 0 c.in-Number-field_at.deadline_at
 run c =
     let start : Begins c.args.line.now 1 2 5 =
-        form_second (bytes "task") 2 _ (lit≤ tt) c.requires in
+    form_second (bytes "task") 2 _ (lit≤ tt) c.requires in
     let period : let s = c.args.line.now in
     States TimeDown s 1 c.in-Number.period × Begins s 2 1 c.in-Number.run_at =
-        steps TimeDown start c.field_at.ensures c.in-Number.is in
+    steps TimeDown start c.field_at.ensures c.in-Number.is in
     steps TimeUp period.1 c.field_at-2.ensures c.in-Number-field_at.is
 
 deadline : (c : goal.In-Number-field_at-2)
     → States TimeDown c.args.line.now 3 c.in-Number-field_at-2.deadline
 deadline c =
     let start : Begins c.args.line.now 1 2 5 =
-        form_second (bytes "task") 2 _ (lit≤ tt) c.requires in
+    form_second (bytes "task") 2 _ (lit≤ tt) c.requires in
     let period : let s = c.args.line.now in
     States TimeDown s 1 c.in-Number.period × Begins s 2 1 c.in-Number.run_at =
-        steps TimeDown start c.field_at.ensures c.in-Number.is in
+    steps TimeDown start c.field_at.ensures c.in-Number.is in
     let run : let s = c.args.line.now in
     States TimeUp s 2 c.in-Number-field_at.run' × Begins s 3 0 c.in-Number-field_at.deadline_at =
-        steps TimeUp period.1 c.field_at-2.ensures c.in-Number-field_at.is in
+    steps TimeUp period.1 c.field_at-2.ensures c.in-Number-field_at.is in
     states TimeDown run.1 c.field_at-3.ensures c.in-Number-field_at-2.is
 
 pub returns-in_default : goal.returns-in_default

@@ -26,7 +26,7 @@ unfolding task_line
 said c =
     let checks : let a = c.args in
     c.first_of.result ≡ (unless (ltb a.past.tasks max_tasks) TooManyTasks a.number then times_fault a.number a.period a.run a.deadline) =
-        c.first_of.ensures ∙ ap₂ ◌then◌ c.room_after-room.ensures c.times-times.ensures in
+    c.first_of.ensures ∙ ap₂ ◌then◌ c.room_after-room.ensures c.times-times.ensures in
     let a = c.args in ap (λ (x : Checked). x gives TaskLine a.period a.run a.deadline) checks
 
 pub returns-in-Refused : goal.returns-in-Refused

@@ -16,46 +16,46 @@ k : (c : goal.In-Number) → let s = c.args.line.now in
     States Count s 1 c.in-Number.k × Begins s 2 2 c.in-Number.requests_at
 k c =
     let start : Begins c.args.line.now 1 3 4 =
-        form_second (bytes "use") 3 _ (lit≤ tt) c.requires in
+    form_second (bytes "use") 3 _ (lit≤ tt) c.requires in
     steps Count start c.field_at.ensures c.in-Number.is
 
 requests : (c : goal.In-Number-field_at) → let s = c.args.line.now in
     States Count s 2 c.in-Number-field_at.requests × Begins s 3 1 c.in-Number-field_at.longest_at
 requests c =
     let start : Begins c.args.line.now 1 3 4 =
-        form_second (bytes "use") 3 _ (lit≤ tt) c.requires in
+    form_second (bytes "use") 3 _ (lit≤ tt) c.requires in
     let k : let s = c.args.line.now in
     States Count s 1 c.in-Number.k × Begins s 2 2 c.in-Number.requests_at =
-        steps Count start c.field_at.ensures c.in-Number.is in
+    steps Count start c.field_at.ensures c.in-Number.is in
     steps Count k.1 c.field_at-2.ensures c.in-Number-field_at.is
 
 longest : (c : goal.In-Number-field_at-2) → let s = c.args.line.now in
     States TimeUp s 3 c.in-Number-field_at-2.longest × Begins s 4 0 c.in-Number-field_at-2.total_at
 longest c =
     let start : Begins c.args.line.now 1 3 4 =
-        form_second (bytes "use") 3 _ (lit≤ tt) c.requires in
+    form_second (bytes "use") 3 _ (lit≤ tt) c.requires in
     let k : let s = c.args.line.now in
     States Count s 1 c.in-Number.k × Begins s 2 2 c.in-Number.requests_at =
-        steps Count start c.field_at.ensures c.in-Number.is in
+    steps Count start c.field_at.ensures c.in-Number.is in
     let requests : let s = c.args.line.now in
     States Count s 2 c.in-Number-field_at.requests × Begins s 3 1 c.in-Number-field_at.longest_at =
-        steps Count k.1 c.field_at-2.ensures c.in-Number-field_at.is in
+    steps Count k.1 c.field_at-2.ensures c.in-Number-field_at.is in
     steps TimeUp requests.1 c.field_at-3.ensures c.in-Number-field_at-2.is
 
 total : (c : goal.In-Number-field_at-3)
     → States TimeUp c.args.line.now 4 c.in-Number-field_at-3.total
 total c =
     let start : Begins c.args.line.now 1 3 4 =
-        form_second (bytes "use") 3 _ (lit≤ tt) c.requires in
+    form_second (bytes "use") 3 _ (lit≤ tt) c.requires in
     let k : let s = c.args.line.now in
     States Count s 1 c.in-Number.k × Begins s 2 2 c.in-Number.requests_at =
-        steps Count start c.field_at.ensures c.in-Number.is in
+    steps Count start c.field_at.ensures c.in-Number.is in
     let requests : let s = c.args.line.now in
     States Count s 2 c.in-Number-field_at.requests × Begins s 3 1 c.in-Number-field_at.longest_at =
-        steps Count k.1 c.field_at-2.ensures c.in-Number-field_at.is in
+    steps Count k.1 c.field_at-2.ensures c.in-Number-field_at.is in
     let longest : let s = c.args.line.now in
     States TimeUp s 3 c.in-Number-field_at-2.longest × Begins s 4 0 c.in-Number-field_at-2.total_at =
-        steps TimeUp requests.1 c.field_at-3.ensures c.in-Number-field_at-2.is in
+    steps TimeUp requests.1 c.field_at-3.ensures c.in-Number-field_at-2.is in
     states TimeUp longest.1 c.field_at-4.ensures c.in-Number-field_at-3.is
 
 pub returns-in_default : goal.returns-in_default

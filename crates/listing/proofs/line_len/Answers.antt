@@ -1,4 +1,3 @@
-use Prim.Native.Nat.{◌-◌}
 use native.Mathlib.Omega.{arith}
 use Rattle.listing.proofs.LineLaws.{line_end, line_more, line_none}
 use Rattle.listing.proofs.line_len.Goals as goal

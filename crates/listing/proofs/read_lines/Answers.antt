@@ -1,7 +1,6 @@
-use Prim.Native.Nat.{◌-◌, ◌≤◌}
+use Prim.Native.Nat.{◌≤◌}
 use mathlib.Core.Path.{refl, ◌∙◌}
 use native.Mathlib.Omega.{arith}
-use lib.ListN.{length}
 use Rattle.table.specs.Limits.{max_resources}
 use Rattle.listing.specs.Read.{table_after}
 use Rattle.listing.proofs.ReadLaws.{left_start, left_end, left_open, Long, long_part, Next, next_fits, next_line_lem, next_not, next_left, group_resource, task_room, alpha_task, use_task, use_resource}
@@ -16,7 +15,7 @@ long c = long_part _ _ _ c.loop-at.invariant.within c.line_len.ensures
 next : (c : goal.After-line_of-said) → Next c.args.listing.now c.loop-at.table c.loop-at.past c.loop-at.number c.loop-at.at c.line_len.result c.line_of-said.result
 next c =
     let long : Long c.args.listing.now c.loop-at.at c.line_len.result =
-        long_part _ _ _ c.loop-at.invariant.within c.line_len.ensures in
+    long_part _ _ _ c.loop-at.invariant.within c.line_len.ensures in
     record { left = c.loop-at.invariant; is = long; more = omega (arith, long.within); says = c.line_of-said.ensures }
 
 pub loop-at-init : goal.loop-at-init
@@ -46,9 +45,9 @@ loop-at-preserved-in-Cpus c = next_left (next (goal.at.loop-at-preserved-in-Cpus
 resource : (c : goal.In-Group) → (1 ≤ c.in-Group.k.0) × (c.in-Group.k.0 ≤ max_resources)
 resource c =
     let long : Long c.args.listing.now c.loop-at.at c.line_len.result =
-        long_part _ _ _ c.loop-at.invariant.within c.line_len.ensures in
+    long_part _ _ _ c.loop-at.invariant.within c.line_len.ensures in
     let next : Next c.args.listing.now c.loop-at.table c.loop-at.past c.loop-at.number c.loop-at.at c.line_len.result c.line_of-said.result =
-        record { left = c.loop-at.invariant; is = long; more = omega (arith, long.within); says = c.line_of-said.ensures } in
+    record { left = c.loop-at.invariant; is = long; more = omega (arith, long.within); says = c.line_of-said.ensures } in
     group_resource (next_line_lem next c.in-Group.is)
 
 pub overflow_sub-j : goal.overflow_sub-j

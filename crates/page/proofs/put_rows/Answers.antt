@@ -1,4 +1,4 @@
-use Prim.Native.Nat.{ℕ, ◌+◌, ◌-◌}
+use Prim.Native.Nat.{ℕ}
 use mathlib.Core.Path.{◌≡◌, ap}
 use native.Mathlib.Omega.{arith}
 use native.Mathlib.Nat.{le_antisymm}
@@ -28,11 +28,11 @@ told c = rw (← c.last_of-last.ensures) c.put_row-at.ensures.value
 abbrev next : (c : goal.After-put_row-at) → Upto c.put_header-at.new.out 1_989
 next c =
     let so_far : Upto c.put_header-at.new.out 1_928 =
-        let l = c.loop-i in
+    let l = c.loop-i in
     upto_of l.invariant.3 (omega (arith, l.invariant.3.long)) in
     let told : let a = c.args in let t = cells_row a.p a.cells c.loop-i.i in
     (c.put_row-at.result ≡ length t) × (c.put_row-at.new.out ≡ t ++ drop c.put_row-at.result (rest_at c.loop-i.out c.loop-i.at)) =
-        rw (← c.last_of-last.ensures) c.put_row-at.ensures.value in
+    rw (← c.last_of-last.ensures) c.put_row-at.ensures.value in
     let a = c.args in
     let i = c.loop-i.i in
     upto_more so_far (cells_row a.p a.cells i) c.put_row-at.auto.out told (omega (arith, c.put_header-at.auto.out)) (omega (arith, told.0, c.put_row-at.ensures.upper_bound))

@@ -1,4 +1,3 @@
-use Prim.Native.Nat.{◌-◌}
 use native.Mathlib.Omega.{arith}
 use Rattle.basics.proofs.FillLaws.{filled_none, filled_copy, filled_copied}
 use Rattle.put.proofs.put_bytes.Goals as goal

@@ -1,4 +1,4 @@
-use Prim.Native.Nat.{suc, ◌-◌, ◌^◌}
+use Prim.Native.Nat.{suc, ◌^◌}
 use mathlib.Core.Path.{◌≡◌}
 use native.Mathlib.Nat.{pow-suc, pow-le-pow_right}
 use native.Mathlib.Numerals.{add-one}

@@ -1,12 +1,12 @@
 use borrow.Author.Rules.{rules}
 use mathlib.Core.Path.{◌≡◌, sym, ap, ◌∙◌}
 use native.Mathlib.Omega.{arith}
-use Prim.Native.Nat.{ℕ, ◌-◌}
+use Prim.Native.Nat.{ℕ}
 use Rattle.basics.specs.Over.{all_to}
 use Rattle.basics.proofs.ChoiceLaws.{stops, passes}
 use Rattle.basics.proofs.AllLaws.{all_none, all_more, all_fails}
 use Rattle.rounds.specs.Shares.{share_at}
-use Rattle.rounds.specs.Outcome.{share_fits, head_fits}
+use Rattle.rounds.specs.Outcome.{share_fits}
 use Rattle.rounds.proofs.SoundLaws.{head_tasks, sound_head, sound_all}
 use Rattle.rounds.proofs.is_sound.Goals as goal
 

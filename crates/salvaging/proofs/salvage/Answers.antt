@@ -16,7 +16,6 @@ use Rattle.salvaging.proofs.FoundLaws.{codes, fits, blocks, blocks_placed, block
 use Rattle.salvaging.proofs.salvage.Goals as goal
 use Rattle.salvaging.proofs.salvage.Goals.{After-blocks_of-k, After-if_fine-blocks, After-if_fine-listed, After-put_codes-left}
 
-
 -- the array begins with the codes: of the k blocks that are looked at, with so many left, and the whole array at exit
 record Coded (s : List ℕ) (k left : ℕ) (f : List ℕ) : Type 0 where
   covered : 512 * k ≤ length s

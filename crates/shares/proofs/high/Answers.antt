@@ -1,7 +1,5 @@
 use mathlib.Core.Path.{refl}
 use native.Mathlib.Omega.{arith}
-use Prim.Native.Nat.{◌-◌}
-use Rattle.theory.specs.View.{is_above}
 use Rattle.shares.proofs.EachLaws.{each_none, each_more, each_all}
 use Rattle.shares.proofs.high.Goals as goal
 

@@ -1,6 +1,6 @@
 use mathlib.Core.Path.{◌≡◌, refl, subst}
 use native.Mathlib.Omega.{arith}
-use Prim.Native.Nat.{ℕ, ◌-◌}
+use Prim.Native.Nat.{ℕ}
 use lib.ListN.{length}
 use Rattle.table.specs.Limits.{max_tasks}
 use Rattle.shares.specs.Pass.{PeaksTo}

@@ -32,7 +32,7 @@ there c =
 above : (c : goal.After-shares_below-down) → AboveIs c.args.t c.args.i c.high-above.result
 above c =
     let there : (c.args.i < c.args.t.n) × (c.args.t.n ≤ max_tasks) =
-        (omega (arith, c.if-t-i.false), omega (arith, c.if-t-gt-MAX_TASKS.false)) in
+    (omega (arith, c.if-t-i.false), omega (arith, c.if-t-gt-MAX_TASKS.false)) in
     let a = c.args in
     let up = c.shares_above-up in
     let w = c.ceilings_with in
@@ -46,9 +46,9 @@ row : (c : goal.After-shares_below-down)
 unfolding table_shares
 row c =
     let there : (c.args.i < c.args.t.n) × (c.args.t.n ≤ max_tasks) =
-        (omega (arith, c.if-t-i.false), omega (arith, c.if-t-gt-MAX_TASKS.false)) in
+    (omega (arith, c.if-t-i.false), omega (arith, c.if-t-gt-MAX_TASKS.false)) in
     let above : AboveIs c.args.t c.args.i c.high-above.result =
-        let a = c.args in
+    let a = c.args in
     let up = c.shares_above-up in
     let w = c.ceilings_with in
     ceilings_all a.t a.i up.result.ceilings w.result c.high-above.result

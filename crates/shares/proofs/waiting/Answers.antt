@@ -1,6 +1,6 @@
 use mathlib.Core.Path.{◌≡◌, ap, ◌∙◌}
 use native.Mathlib.Omega.{arith}
-use Prim.Native.Nat.{ℕ, ◌-◌, min}
+use Prim.Native.Nat.{ℕ, min}
 use Rattle.basics.specs.Over.{sum_to}
 use Rattle.basics.proofs.SumLaws.{sum_none, sum_more}
 use Rattle.rounds.specs.Outcome.{max_wait}

@@ -18,7 +18,7 @@ said c = read_own _ c.merge-read.ensures
 fine : (c : goal.In-Fine) → table_fault c.args.t ≡ Fine
 fine c =
     let said : c.merge-read.result.answer ≡ table_fault c.args.t =
-        read_own _ c.merge-read.ensures in
+    read_own _ c.merge-read.ensures in
     sym said ∙ c.in-Fine.is
 
 pub returns-in_default : goal.returns-in_default

@@ -23,17 +23,17 @@ counted : (c : goal.After-length-a) → let a = c.args in
     (c.length-a.result ≡ length (count_text a.x.task.0)) × (c.put_count.new.out ≡ count_text a.x.task.0 ++ drop c.length-a.result a.out.now)
 counted c =
     let short : (length (count_text c.args.x.task.0) ≤ 10) × (length (count_text c.args.x.rounds) ≤ 10) =
-        (count_small c.args.x.task.0 (omega arith), count_small c.args.x.rounds (omega arith)) in
+    (count_small c.args.x.task.0 (omega arith), count_small c.args.x.rounds (omega arith)) in
     let a = c.args in
     written_all (count_text a.x.task.0) a.out.now (omega (arith, short.0, c.requires)) c.length-a.ensures c.put_count.ensures.0 c.put_count.ensures.1
 
 far : (c : goal.After-length-a) → (c.length-a.result ≤ 10) × (max_row ≤ length c.args.out.now)
 far c =
     let short : (length (count_text c.args.x.task.0) ≤ 10) × (length (count_text c.args.x.rounds) ≤ 10) =
-        (count_small c.args.x.task.0 (omega arith), count_small c.args.x.rounds (omega arith)) in
+    (count_small c.args.x.task.0 (omega arith), count_small c.args.x.rounds (omega arith)) in
     let counted : let a = c.args in
     (c.length-a.result ≡ length (count_text a.x.task.0)) × (c.put_count.new.out ≡ count_text a.x.task.0 ++ drop c.length-a.result a.out.now) =
-        let a = c.args in
+    let a = c.args in
     written_all (count_text a.x.task.0) a.out.now (omega (arith, short.0, c.requires)) c.length-a.ensures c.put_count.ensures.0 c.put_count.ensures.1 in
     omega (arith, short.0, counted.0, c.requires)
 
@@ -47,10 +47,10 @@ bounded : (c : goal.After-spaced_bound-c) → let a = c.args in
     Filled a.out.now c.spaced_bound-c.new.out ((count_text a.x.task.0 ++ 32 ∷ word_text a.cells.0) ++ 32 ∷ bound_text a.cells.1) c.spaced_bound-c.result
 bounded c =
     let short : (length (count_text c.args.x.task.0) ≤ 10) × (length (count_text c.args.x.rounds) ≤ 10) =
-        (count_small c.args.x.task.0 (omega arith), count_small c.args.x.rounds (omega arith)) in
+    (count_small c.args.x.task.0 (omega arith), count_small c.args.x.rounds (omega arith)) in
     let counted : let a = c.args in
     (c.length-a.result ≡ length (count_text a.x.task.0)) × (c.put_count.new.out ≡ count_text a.x.task.0 ++ drop c.length-a.result a.out.now) =
-        let a = c.args in
+    let a = c.args in
     written_all (count_text a.x.task.0) a.out.now (omega (arith, short.0, c.requires)) c.length-a.ensures c.put_count.ensures.0 c.put_count.ensures.1 in
     let a = c.args in
     let f₀ = filled_text (count_text a.x.task.0) c.put_count.auto.out counted in
@@ -61,34 +61,34 @@ bounded c =
 rest : (c : goal.After-spaced_bound-c) → (c.spaced_bound-c.result + 23 + length (count_text c.args.x.rounds) ≤ max_row) × (max_row ≤ length c.args.out.now)
 rest c =
     let short : (length (count_text c.args.x.task.0) ≤ 10) × (length (count_text c.args.x.rounds) ≤ 10) =
-        (count_small c.args.x.task.0 (omega arith), count_small c.args.x.rounds (omega arith)) in
+    (count_small c.args.x.task.0 (omega arith), count_small c.args.x.rounds (omega arith)) in
     let counted : let a = c.args in
     (c.length-a.result ≡ length (count_text a.x.task.0)) × (c.put_count.new.out ≡ count_text a.x.task.0 ++ drop c.length-a.result a.out.now) =
-        let a = c.args in
+    let a = c.args in
     written_all (count_text a.x.task.0) a.out.now (omega (arith, short.0, c.requires)) c.length-a.ensures c.put_count.ensures.0 c.put_count.ensures.1 in
     let far : (c.length-a.result ≤ 10) × (max_row ≤ length c.args.out.now) =
-        omega (arith, short.0, counted.0, c.requires) in
+    omega (arith, short.0, counted.0, c.requires) in
     omega (arith, far, short.1, word_most c.args.cells.0, c.spaced_word-b.ensures.0, c.spaced_bound-c.ensures.upper_bound)
 
 rounds : (c : goal.After-length) → let r = c.spaced_bound-c.result in
     PutAt (32 ∷ count_text c.args.x.rounds) r (r + c.length.result) c.spaced_bound-c.new.out c.spaced_count.new.out
 rounds c =
     let short : (length (count_text c.args.x.task.0) ≤ 10) × (length (count_text c.args.x.rounds) ≤ 10) =
-        (count_small c.args.x.task.0 (omega arith), count_small c.args.x.rounds (omega arith)) in
+    (count_small c.args.x.task.0 (omega arith), count_small c.args.x.rounds (omega arith)) in
     let counted : let a = c.args in
     (c.length-a.result ≡ length (count_text a.x.task.0)) × (c.put_count.new.out ≡ count_text a.x.task.0 ++ drop c.length-a.result a.out.now) =
-        let a = c.args in
+    let a = c.args in
     written_all (count_text a.x.task.0) a.out.now (omega (arith, short.0, c.requires)) c.length-a.ensures c.put_count.ensures.0 c.put_count.ensures.1 in
     let bounded : let a = c.args in
     Filled a.out.now c.spaced_bound-c.new.out ((count_text a.x.task.0 ++ 32 ∷ word_text a.cells.0) ++ 32 ∷ bound_text a.cells.1) c.spaced_bound-c.result =
-        let a = c.args in
+    let a = c.args in
     let f₀ = filled_text (count_text a.x.task.0) c.put_count.auto.out counted in
     let f₁ = filled_at f₀ (32 ∷ word_text a.cells.0) c.spaced_word-b.auto.out c.spaced_word-b.ensures in
     filled_at f₁ (32 ∷ bound_text a.cells.1) c.spaced_bound-c.auto.out c.spaced_bound-c.ensures.value in
     let far : (c.length-a.result ≤ 10) × (max_row ≤ length c.args.out.now) =
-        omega (arith, short.0, counted.0, c.requires) in
+    omega (arith, short.0, counted.0, c.requires) in
     let rest : (c.spaced_bound-c.result + 23 + length (count_text c.args.x.rounds) ≤ max_row) × (max_row ≤ length c.args.out.now) =
-        omega (arith, far, short.1, word_most c.args.cells.0, c.spaced_word-b.ensures.0, c.spaced_bound-c.ensures.upper_bound) in
+    omega (arith, far, short.1, word_most c.args.cells.0, c.spaced_word-b.ensures.0, c.spaced_bound-c.ensures.upper_bound) in
     let s = c.spaced_count in
     at_all (32 ∷ count_text c.args.x.rounds) c.spaced_bound-c.new.out c.spaced_bound-c.result (omega (arith, rest, bounded.kept)) c.length.ensures s.ensures
 
@@ -96,24 +96,24 @@ filled : (c : goal.After-spaced_last-e) → let a = c.args in
     Filled a.out.now (set c.spaced_last-e.new.out c.spaced_last-e.result 10) (((((count_text a.x.task.0 ++ 32 ∷ word_text a.cells.0) ++ 32 ∷ bound_text a.cells.1) ++ 32 ∷ count_text a.x.rounds) ++ spaced_last a.last) ++ 10 ∷ []) (c.spaced_last-e.result + 1)
 filled c =
     let short : (length (count_text c.args.x.task.0) ≤ 10) × (length (count_text c.args.x.rounds) ≤ 10) =
-        (count_small c.args.x.task.0 (omega arith), count_small c.args.x.rounds (omega arith)) in
+    (count_small c.args.x.task.0 (omega arith), count_small c.args.x.rounds (omega arith)) in
     let counted : let a = c.args in
     (c.length-a.result ≡ length (count_text a.x.task.0)) × (c.put_count.new.out ≡ count_text a.x.task.0 ++ drop c.length-a.result a.out.now) =
-        let a = c.args in
+    let a = c.args in
     written_all (count_text a.x.task.0) a.out.now (omega (arith, short.0, c.requires)) c.length-a.ensures c.put_count.ensures.0 c.put_count.ensures.1 in
     let bounded : let a = c.args in
     Filled a.out.now c.spaced_bound-c.new.out ((count_text a.x.task.0 ++ 32 ∷ word_text a.cells.0) ++ 32 ∷ bound_text a.cells.1) c.spaced_bound-c.result =
-        let a = c.args in
+    let a = c.args in
     let f₀ = filled_text (count_text a.x.task.0) c.put_count.auto.out counted in
     let f₁ = filled_at f₀ (32 ∷ word_text a.cells.0) c.spaced_word-b.auto.out c.spaced_word-b.ensures in
     filled_at f₁ (32 ∷ bound_text a.cells.1) c.spaced_bound-c.auto.out c.spaced_bound-c.ensures.value in
     let far : (c.length-a.result ≤ 10) × (max_row ≤ length c.args.out.now) =
-        omega (arith, short.0, counted.0, c.requires) in
+    omega (arith, short.0, counted.0, c.requires) in
     let rest : (c.spaced_bound-c.result + 23 + length (count_text c.args.x.rounds) ≤ max_row) × (max_row ≤ length c.args.out.now) =
-        omega (arith, far, short.1, word_most c.args.cells.0, c.spaced_word-b.ensures.0, c.spaced_bound-c.ensures.upper_bound) in
+    omega (arith, far, short.1, word_most c.args.cells.0, c.spaced_word-b.ensures.0, c.spaced_bound-c.ensures.upper_bound) in
     let rounds : let r = c.spaced_bound-c.result in
     PutAt (32 ∷ count_text c.args.x.rounds) r (r + c.length.result) c.spaced_bound-c.new.out c.spaced_count.new.out =
-        let s = c.spaced_count in
+    let s = c.spaced_count in
     at_all (32 ∷ count_text c.args.x.rounds) c.spaced_bound-c.new.out c.spaced_bound-c.result (omega (arith, rest, bounded.kept)) c.length.ensures s.ensures in
     let a = c.args in
     let f₃ = filled_at bounded (32 ∷ count_text a.x.rounds) c.spaced_count.auto.out rounds in

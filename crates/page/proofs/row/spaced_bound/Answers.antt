@@ -17,17 +17,17 @@ counted : (c : goal.After-length) → let a = c.args in
     PutAt (32 ∷ count_text c.in-Of.t) a.at (a.at + c.length.result) a.out.now c.spaced_count.new.out
 counted c =
     let short : length (count_text c.in-Of.t) ≤ 10 =
-        count_small c.in-Of.t (omega arith) in
+    count_small c.in-Of.t (omega arith) in
     let a = c.args in
     at_all (32 ∷ count_text c.in-Of.t) a.out.now a.at (omega (arith, short, c.requires)) c.length.ensures c.spaced_count.ensures
 
 few : (c : goal.After-length) → c.length.result ≤ 11
 few c =
     let short : length (count_text c.in-Of.t) ≤ 10 =
-        count_small c.in-Of.t (omega arith) in
+    count_small c.in-Of.t (omega arith) in
     let counted : let a = c.args in
     PutAt (32 ∷ count_text c.in-Of.t) a.at (a.at + c.length.result) a.out.now c.spaced_count.new.out =
-        let a = c.args in
+    let a = c.args in
     at_all (32 ∷ count_text c.in-Of.t) a.out.now a.at (omega (arith, short, c.requires)) c.length.ensures c.spaced_count.ensures in
     omega (arith, short, counted.0)
 

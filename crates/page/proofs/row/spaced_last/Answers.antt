@@ -4,7 +4,7 @@ use mathlib.Core.Path.{sym}
 use mathlib.Core.List.{◌∷◌}
 use native.Mathlib.Nat.{add-zero}
 use native.Mathlib.Omega.{arith}
-use lib.ListN.{length, take-append-drop}
+use lib.ListN.{take-append-drop}
 use Rattle.put.specs.Text.{count_text}
 use Rattle.put.proofs.TextLaws.{count_most}
 use Rattle.put.proofs.PlaceLaws.{PutAt, at_all}
@@ -21,7 +21,7 @@ few : (c : goal.After-length) → c.length.result ≤ 21
 few c =
     let counted : let a = c.args in
     PutAt (32 ∷ count_text c.in-Of.wait) a.at (a.at + c.length.result) a.out.now c.spaced_count.new.out =
-        let a = c.args in
+    let a = c.args in
     at_all (32 ∷ count_text c.in-Of.wait) a.out.now a.at (omega (arith, count_most c.in-Of.wait, c.requires)) c.length.ensures c.spaced_count.ensures in
     omega (arith, count_most c.in-Of.wait, counted.0)
 

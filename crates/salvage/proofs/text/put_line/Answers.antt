@@ -19,7 +19,7 @@ one c =
 abbrev two : (c : goal.After-length) → Upto c.args.out.now 11
 two c =
     let one : Upto c.args.out.now 10 =
-        let n = c.args.position in
+    let n = c.args.position in
     upto_first (count_text n) c.put_count.auto.out (written_all (count_text n) _ (omega (arith, c.requires, count_small n (omega arith))) c.length-a.ensures c.put_count.ensures.0 c.put_count.ensures.1) (count_small n (omega arith)) in
     let u = one in
     upto_more u (bytes " ") c.put_text.auto.out
@@ -28,10 +28,10 @@ two c =
 abbrev three : (c : goal.After-length-2) → Upto c.args.out.now 18
 three c =
     let one : Upto c.args.out.now 10 =
-        let n = c.args.position in
+    let n = c.args.position in
     upto_first (count_text n) c.put_count.auto.out (written_all (count_text n) _ (omega (arith, c.requires, count_small n (omega arith))) c.length-a.ensures c.put_count.ensures.0 c.put_count.ensures.1) (count_small n (omega arith)) in
     let two : Upto c.args.out.now 11 =
-        let u = one in
+    let u = one in
     upto_more u (bytes " ") c.put_text.auto.out
     (written_all (bytes " ") _ (omega (arith, upto_room 1 u (omega (arith, c.requires)))) c.length.ensures c.put_text.ensures.0 c.put_text.ensures.1) (omega (arith, c.requires)) (omega arith) in
     let u = two in
@@ -42,14 +42,14 @@ three c =
 abbrev four : (c : goal.After-length-3) → Upto c.args.out.now 19
 four c =
     let one : Upto c.args.out.now 10 =
-        let n = c.args.position in
+    let n = c.args.position in
     upto_first (count_text n) c.put_count.auto.out (written_all (count_text n) _ (omega (arith, c.requires, count_small n (omega arith))) c.length-a.ensures c.put_count.ensures.0 c.put_count.ensures.1) (count_small n (omega arith)) in
     let two : Upto c.args.out.now 11 =
-        let u = one in
+    let u = one in
     upto_more u (bytes " ") c.put_text.auto.out
     (written_all (bytes " ") _ (omega (arith, upto_room 1 u (omega (arith, c.requires)))) c.length.ensures c.put_text.ensures.0 c.put_text.ensures.1) (omega (arith, c.requires)) (omega arith) in
     let three : Upto c.args.out.now 18 =
-        let u = two in
+    let u = two in
     let t = code_word c.args.code in
     upto_more u t c.put_word.auto.out
     (written_all t _ (omega (arith, word_most c.args.code, upto_room 7 u (omega (arith, c.requires)))) c.length-2.ensures c.put_word.ensures.0 c.put_word.ensures.1) (omega (arith, c.requires)) (omega (arith, word_most c.args.code)) in

@@ -1,4 +1,4 @@
-use Prim.Native.Nat.{ℕ, ◌+◌, ◌-◌}
+use Prim.Native.Nat.{ℕ, ◌+◌}
 use mathlib.Core.Path.{◌≡◌, ap}
 use native.Mathlib.Omega.{arith}
 use lib.ListN.{length}
@@ -20,7 +20,7 @@ so_far c =
 abbrev next : (c : goal.After-put_line-at) → Upto c.args.out.now 1_216
 next c =
     let so_far : Upto c.args.out.now 1_197 =
-        upto_of c.loop-i.invariant.1 (omega (arith, lines_most c.loop-i.i c.args.list.now (omega (arith, c.requires.1)))) in
+    upto_of c.loop-i.invariant.1 (omega (arith, lines_most c.loop-i.i c.args.list.now (omega (arith, c.requires.1)))) in
     let i = c.loop-i.i in
     upto_more so_far (code_line c.args.list.now i) c.put_line-at.auto.out c.put_line-at.ensures (omega (arith, c.requires.0)) (omega (arith, line_most (i + 1) (byte_at c.args.list.now i) (omega (arith, c.requires.1))))
 

@@ -25,71 +25,71 @@ blocks v = v.blocks_of-k.result
 abbrev shown : goal.After-salvage-answer → List ℕ
 shown v =
     let blocks : ℕ =
-        v.blocks_of-k.result in
+    v.blocks_of-k.result in
     take blocks v.salvage-answer.new.list
 
-few : (v : goal.After-salvage-answer) → 
+few : (v : goal.After-salvage-answer) →
     let blocks : ℕ =
-        v.blocks_of-k.result in
+    v.blocks_of-k.result in
     blocks ≤ max_blocks
 few v =
     let card : List ℕ =
-        v.args.card.now in
+    v.args.card.now in
     omega (arith, v.blocks_of-k.ensures, (looked_bounds (length card)).1)
 
-within : (v : goal.After-salvage-answer) → 
+within : (v : goal.After-salvage-answer) →
     let blocks : ℕ =
-        v.blocks_of-k.result in
+    v.blocks_of-k.result in
     blocks ≤ length v.salvage-answer.new.list
 within v =
     let card : List ℕ =
-        v.args.card.now in
+    v.args.card.now in
     let few : let blocks : ℕ =
-        v.blocks_of-k.result in
+    v.blocks_of-k.result in
     blocks ≤ max_blocks =
-        omega (arith, v.blocks_of-k.ensures, (looked_bounds (length card)).1) in
+    omega (arith, v.blocks_of-k.ensures, (looked_bounds (length card)).1) in
     omega (arith, few, v.salvage-answer.auto.list)
 
-shown-is : (v : goal.After-salvage-answer) → 
+shown-is : (v : goal.After-salvage-answer) →
     let card : List ℕ =
-        v.args.card.now in
+    v.args.card.now in
     let blocks : ℕ =
-        v.blocks_of-k.result in
+    v.blocks_of-k.result in
     let shown : List ℕ =
-        take blocks v.salvage-answer.new.list in
+    take blocks v.salvage-answer.new.list in
     shown ≡ row_to (blocks_of (length card)) (code_at card)
 shown-is v =
     let card : List ℕ =
-        v.args.card.now in
+    v.args.card.now in
     (λ j. take (v.blocks_of-k.ensures j) (v.salvage-answer.ensures.1 j))
     ∙ list_is card _ (length v.args.out.now) (omega arith) (omega (arith, v.requires.0))
 
-answered : (v : goal.After-salvage-answer) → 
+answered : (v : goal.After-salvage-answer) →
     let card : List ℕ =
-        v.args.card.now in
+    v.args.card.now in
     v.salvage-answer.result ≡ salvage_answer card max_blocks max_card
 answered v =
     let card : List ℕ =
-        v.args.card.now in
+    v.args.card.now in
     v.salvage-answer.ensures.0 ∙ ap (salvage_answer card max_blocks) v.requires.0
 
 -- what is told, after each part
 abbrev one : (p : goal.After-put_lines-at) → Upto p.args.told.now 1_216
 one p =
     let blocks : ℕ =
-        p.blocks_of-k.result in
+    p.blocks_of-k.result in
     let shown : List ℕ =
-        take blocks p.salvage-answer.new.list in
+    take blocks p.salvage-answer.new.list in
     let card : List ℕ =
-        p.args.card.now in
+    p.args.card.now in
     let few : let blocks : ℕ =
-        p.blocks_of-k.result in
+    p.blocks_of-k.result in
     blocks ≤ max_blocks =
-        omega (arith, p.blocks_of-k.ensures, (looked_bounds (length card)).1) in
+    omega (arith, p.blocks_of-k.ensures, (looked_bounds (length card)).1) in
     let within : let blocks : ℕ =
-        p.blocks_of-k.result in
+    p.blocks_of-k.result in
     blocks ≤ length p.salvage-answer.new.list =
-        omega (arith, few, p.salvage-answer.auto.list) in
+    omega (arith, few, p.salvage-answer.auto.list) in
     let l = shown in
     let n = length-take-le blocks p.salvage-answer.new.list within in
     upto_first (join_to (length l) (code_line l)) p.put_lines-at.auto.out p.put_lines-at.ensures (omega (arith, lines_most (length l) l (omega (arith, n, few)), n, few))
@@ -97,21 +97,21 @@ one p =
 abbrev two : (q : goal.After-put_refused) → Upto q.args.told.now 1_272
 two q =
     let blocks : ℕ =
-        q.blocks_of-k.result in
+    q.blocks_of-k.result in
     let shown : List ℕ =
-        take blocks q.salvage-answer.new.list in
+    take blocks q.salvage-answer.new.list in
     let card : List ℕ =
-        q.args.card.now in
+    q.args.card.now in
     let few : let blocks : ℕ =
-        q.blocks_of-k.result in
+    q.blocks_of-k.result in
     blocks ≤ max_blocks =
-        omega (arith, q.blocks_of-k.ensures, (looked_bounds (length card)).1) in
+    omega (arith, q.blocks_of-k.ensures, (looked_bounds (length card)).1) in
     let within : let blocks : ℕ =
-        q.blocks_of-k.result in
+    q.blocks_of-k.result in
     blocks ≤ length q.salvage-answer.new.list =
-        omega (arith, few, q.salvage-answer.auto.list) in
+    omega (arith, few, q.salvage-answer.auto.list) in
     let one : Upto q.args.told.now 1_216 =
-        let l = shown in
+    let l = shown in
     let n = length-take-le blocks q.salvage-answer.new.list within in
     upto_first (join_to (length l) (code_line l)) q.put_lines-at.auto.out q.put_lines-at.ensures (omega (arith, lines_most (length l) l (omega (arith, n, few)), n, few)) in
     upto_more one (refused_by q.salvage-answer.result) q.put_refused.auto.out q.put_refused.ensures (omega (arith, q.requires.1)) (omega (arith, refused_most q.salvage-answer.result))

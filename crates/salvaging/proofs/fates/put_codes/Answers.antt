@@ -1,4 +1,4 @@
-use Prim.Native.Nat.{◌+◌, ◌-◌}
+use Prim.Native.Nat.{◌+◌}
 use mathlib.Core.Path.{◌≡◌, sym, ap, ◌∙◌}
 use native.Mathlib.Omega.{arith}
 use lib.Dec.{leb}
@@ -20,7 +20,7 @@ counted : (c : goal.Joined-is_left) →
     c.if-is_left.left ≡ c.loop-i.left + only (leb 2 (code_at c.args.s.now c.loop-i.i)) 1
 counted c =
     let coded : c.code-code.result ≡ code_at c.args.s.now c.loop-i.i =
-        c.code-code.ensures ∙ ap code_of c.fate_of-f.ensures in
+    c.code-code.ensures ∙ ap code_of c.fate_of-f.ensures in
     let e = c.is_left.ensures ∙ ap (leb 2) coded in
     elim c.if-is_left.branch [ then-is_left w ↦ count_on _ _ (sym e ∙ w.if-is_left.true) w.left-is | else-is_left w ↦ count_off _ _ (sym e ∙ w.if-is_left.false) w.left-is ]
 

@@ -1,6 +1,5 @@
 use mathlib.Core.Path.{refl}
 use native.Mathlib.Omega.{arith}
-use Prim.Native.Nat.{◌-◌}
 use lib.ListN.{length-set}
 use Rattle.waits.proofs.PlacingLaws.{placed_none, placing_more, placed_full, placed_room}
 use Rattle.waits.proofs.longest.keep.Goals as goal

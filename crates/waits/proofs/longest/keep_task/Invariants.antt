@@ -1,5 +1,5 @@
 -- `waits::longest::keep_task` meets its contract. The loop's invariant: the requests for the resources from slot k on are kept. Assumes nothing.
-use Prim.Native.Nat.{◌-◌, ◌≤◌}
+use Prim.Native.Nat.{◌≤◌}
 use Rattle.table.specs.Limits.{max_resources}
 use Rattle.waits.specs.Kept.{KeptWith}
 use Rattle.waits.proofs.KeyLaws.{keys_rest}

@@ -1,5 +1,5 @@
 use native.Mathlib.Omega.{arith}
-use Prim.Native.Nat.{ℕ, ◌+◌, ◌-◌, min}
+use Prim.Native.Nat.{ℕ, ◌+◌, min}
 use mathlib.Core.Path.{◌≡◌}
 use Rattle.basics.proofs.ChoiceLaws.{stops, passes}
 use Rattle.waits.proofs.SummingLaws.{Going, going_first, going_past, going_more, going_last}

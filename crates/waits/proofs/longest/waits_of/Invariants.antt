@@ -1,6 +1,6 @@
 -- `waits::longest::waits_of` meets its contract. The loop's invariant: the requests of the tasks from slot i on are kept, and the waits of these tasks stored. Assumes nothing.
 use mathlib.Core.Path.{◌≡◌}
-use Prim.Native.Nat.{◌-◌, ◌≤◌}
+use Prim.Native.Nat.{◌≤◌}
 use Rattle.table.specs.Limits.{max_tasks}
 use Rattle.waits.proofs.WaitLaws.{KeptFrom, waits_from}
 use Rattle.waits.proofs.longest.waits_of.Given as goal

@@ -20,7 +20,7 @@ numbered : (c : goal.After-length) → let w = c.put-a in
     PutAt (32 ∷ count_text c.args.n) w.result (w.result + c.length.result) w.new.out c.spaced_count.new.out
 numbered c =
     let room : length c.args.word.now + 2 + length (count_text c.args.n) ≤ length c.args.out.now =
-        omega (arith, c.requires, counted_length c.args.word.now c.args.n) in
+    omega (arith, c.requires, counted_length c.args.word.now c.args.n) in
     let w = c.put-a in
     at_all (32 ∷ count_text c.args.n) w.new.out w.result (omega (arith, room, w.auto.out)) c.length.ensures c.spaced_count.ensures
 

@@ -19,31 +19,31 @@ room s = omega (arith, s.requires, group_length s.args.group s.args.k.0)
 abbrev behind : goal.After-length → ℕ
 behind c = c.put-a.result + c.length.result
 
-grouped : (c : goal.After-length) → 
+grouped : (c : goal.After-length) →
     let behind : ℕ =
-        c.put-a.result + c.length.result in
+    c.put-a.result + c.length.result in
     let w = c.put-a in
     PutAt (32 ∷ count_text c.args.group) w.result behind w.new.out c.spaced_count.new.out
 grouped c =
     let room : 8 + length (count_text c.args.group) + length (count_text c.args.k.0) ≤ length c.args.out.now =
-        omega (arith, c.requires, group_length c.args.group c.args.k.0) in
+    omega (arith, c.requires, group_length c.args.group c.args.k.0) in
     let w = c.put-a in
     at_all (32 ∷ count_text c.args.group) w.new.out w.result (omega (arith, room, w.auto.out)) c.length.ensures c.spaced_count.ensures
 
-numbered : (c : goal.After-length-2) → 
+numbered : (c : goal.After-length-2) →
     let behind : ℕ =
-        c.put-a.result + c.length.result in
+    c.put-a.result + c.length.result in
     PutAt (32 ∷ count_text c.args.k.0) behind (behind + c.length-2.result) c.spaced_count.new.out c.spaced_count-2.new.out
 numbered c =
     let room : 8 + length (count_text c.args.group) + length (count_text c.args.k.0) ≤ length c.args.out.now =
-        omega (arith, c.requires, group_length c.args.group c.args.k.0) in
+    omega (arith, c.requires, group_length c.args.group c.args.k.0) in
     let behind : ℕ =
-        c.put-a.result + c.length.result in
+    c.put-a.result + c.length.result in
     let grouped : let behind : ℕ =
-        c.put-a.result + c.length.result in
+    c.put-a.result + c.length.result in
     let w = c.put-a in
     PutAt (32 ∷ count_text c.args.group) w.result behind w.new.out c.spaced_count.new.out =
-        let w = c.put-a in
+    let w = c.put-a in
     at_all (32 ∷ count_text c.args.group) w.new.out w.result (omega (arith, room, w.auto.out)) c.length.ensures c.spaced_count.ensures in
     at_all (32 ∷ count_text c.args.k.0) c.spaced_count.new.out behind
     (omega (arith, room, grouped.0, c.spaced_count.auto.out, c.put-a.auto.out))

@@ -1,4 +1,4 @@
-use Prim.Native.Nat.{ℕ, ◌+◌, ◌-◌, ◌≤◌}
+use Prim.Native.Nat.{ℕ, ◌+◌, ◌≤◌}
 use mathlib.Core.Path.{◌≡◌, ap}
 use mathlib.Core.List.{◌++◌}
 use native.Mathlib.Omega.{arith}
@@ -22,7 +22,7 @@ unfolding head_text
 room c =
     let filled : let a = c.args in
     Filled a.out.now c.loop-k.out (cpus_text a.cpus ++ join_to c.loop-k.k (member_text a.groups)) c.loop-k.at =
-        c.loop-k.invariant.1 c.args.out.now (filled_text _ c.put_counted-at.auto.out c.put_counted-at.ensures) in
+    c.loop-k.invariant.1 c.args.out.now (filled_text _ c.put_counted-at.auto.out c.put_counted-at.ensures) in
     next_room (cpus_text c.args.cpus) (member_text c.args.groups) c.loop-k.k filled 16 c.loop-k-test.true c.requires
 
 pub put_counted-at-requires : goal.put_counted-at-requires

@@ -1,5 +1,5 @@
 -- `writing::text::put_head` meets its contract. The loop's invariant: an output that the loop found filled with the first line is now filled with that line and the lines of the resources passed. Assumes nothing.
-use Prim.Native.Nat.{ℕ, ◌+◌, ◌-◌, ◌≤◌}
+use Prim.Native.Nat.{ℕ, ◌-◌, ◌≤◌}
 use mathlib.Core.List.{List, ◌++◌}
 use Rattle.basics.specs.Over.{join_to}
 use Rattle.basics.proofs.FillLaws.{Filled}

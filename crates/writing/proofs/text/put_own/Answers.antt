@@ -22,10 +22,10 @@ behind : (c : goal.After-put_line-at) → let a = c.args in
     c.put_line-at.result + length (alpha_text a.x.alpha) ≤ length c.put_line-at.new.out
 behind c =
     let room : length (times_text c.args.x) + length (alpha_text c.args.x.alpha) ≤ length c.args.out.now =
-        omega (arith, c.requires, length-append (times_text c.args.x) (alpha_text c.args.x.alpha)) in
+    omega (arith, c.requires, length-append (times_text c.args.x) (alpha_text c.args.x.alpha)) in
     let lined : let a = c.args in
     Filled a.out.now c.put_line-at.new.out (times_text a.x) c.put_line-at.result =
-        filled_text _ c.put_line-at.auto.out c.put_line-at.ensures in
+    filled_text _ c.put_line-at.auto.out c.put_line-at.ensures in
     omega (arith, room, lined.long, lined.kept)
 
 pub put_line-at-requires : goal.put_line-at-requires

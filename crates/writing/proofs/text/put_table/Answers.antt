@@ -1,4 +1,4 @@
-use Prim.Native.Nat.{ℕ, ◌+◌, ◌-◌, ◌≤◌}
+use Prim.Native.Nat.{ℕ, ◌+◌, ◌≤◌}
 use mathlib.Core.Path.{◌≡◌, ap}
 use mathlib.Core.List.{◌++◌}
 use native.Mathlib.Omega.{arith}
@@ -26,7 +26,7 @@ unfolding text_of
 room c =
     let filled : let a = c.args in
     Filled a.out.now c.loop-i.out (head_of a.t ++ join_to c.loop-i.i (lines_of a.t)) c.loop-i.at =
-        c.loop-i.invariant.1 c.args.out.now (filled_text _ c.put_head-at.auto.out c.put_head-at.ensures) in
+    c.loop-i.invariant.1 c.args.out.now (filled_text _ c.put_head-at.auto.out c.put_head-at.ensures) in
     next_room (head_of c.args.t) (lines_of c.args.t) c.loop-i.i filled c.args.t.n c.loop-i-test.true c.requires.1
 
 pub put_head-at-requires : goal.put_head-at-requires

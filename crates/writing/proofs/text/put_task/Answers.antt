@@ -1,4 +1,4 @@
-use Prim.Native.Nat.{◌+◌, ◌-◌, ◌≤◌}
+use Prim.Native.Nat.{◌+◌, ◌≤◌}
 use mathlib.Core.Path.{◌≡◌}
 use mathlib.Core.List.{◌++◌}
 use native.Mathlib.Omega.{arith}
@@ -22,7 +22,7 @@ unfolding task_text
 room c =
     let filled : let a = c.args in
     Filled a.out.now c.loop-k.out (own_text a.x ++ join_to c.loop-k.k (pair_text a.x)) c.loop-k.at =
-        c.loop-k.invariant.1 c.args.out.now (filled_text _ c.put_own-at.auto.out c.put_own-at.ensures) in
+    c.loop-k.invariant.1 c.args.out.now (filled_text _ c.put_own-at.auto.out c.put_own-at.ensures) in
     next_room (own_text c.args.x) (pair_text c.args.x) c.loop-k.k filled 16 c.loop-k-test.true c.requires
 
 pub put_own-at-requires : goal.put_own-at-requires

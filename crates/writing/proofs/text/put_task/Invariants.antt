@@ -1,5 +1,5 @@
 -- `writing::text::put_task` meets its contract. The loop's invariant: an output that the loop found filled with the task's own lines is now filled with these and the lines of the pairs passed. Assumes nothing.
-use Prim.Native.Nat.{ℕ, ◌+◌, ◌-◌, ◌≤◌}
+use Prim.Native.Nat.{ℕ, ◌-◌, ◌≤◌}
 use mathlib.Core.List.{List, ◌++◌}
 use Rattle.basics.specs.Over.{join_to}
 use Rattle.basics.proofs.FillLaws.{Filled}

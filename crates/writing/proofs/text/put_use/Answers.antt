@@ -20,60 +20,60 @@ room s = omega (arith, use_length s.args.k.0 s.args.p)
 abbrev behind : goal.After-length → ℕ
 behind c = c.put-a.result + c.length.result
 
-numbered : (c : goal.After-length) → 
+numbered : (c : goal.After-length) →
     let behind : ℕ =
-        c.put-a.result + c.length.result in
+    c.put-a.result + c.length.result in
     let w = c.put-a in
     PutAt (32 ∷ count_text c.args.k.0) w.result behind w.new.out c.spaced_count.new.out
 numbered c =
     let room : let k = c.args.k.0 in let p = c.args.p in
     8 + length (count_text k) + length (count_text p.requests) + length (time_text p.longest) + length (time_text p.total) ≤ length c.args.out.now =
-        omega (arith, use_length c.args.k.0 c.args.p) in
+    omega (arith, use_length c.args.k.0 c.args.p) in
     let w = c.put-a in
     at_all (32 ∷ count_text c.args.k.0) w.new.out w.result (omega (arith, room, w.auto.out)) c.length.ensures c.spaced_count.ensures
 
-requested : (c : goal.After-length-2) → 
+requested : (c : goal.After-length-2) →
     let behind : ℕ =
-        c.put-a.result + c.length.result in
+    c.put-a.result + c.length.result in
     PutAt (32 ∷ count_text c.args.p.requests) behind (behind + c.length-2.result) c.spaced_count.new.out c.spaced_count-2.new.out
 requested c =
     let room : let k = c.args.k.0 in let p = c.args.p in
     8 + length (count_text k) + length (count_text p.requests) + length (time_text p.longest) + length (time_text p.total) ≤ length c.args.out.now =
-        omega (arith, use_length c.args.k.0 c.args.p) in
+    omega (arith, use_length c.args.k.0 c.args.p) in
     let behind : ℕ =
-        c.put-a.result + c.length.result in
+    c.put-a.result + c.length.result in
     let numbered : let behind : ℕ =
-        c.put-a.result + c.length.result in
+    c.put-a.result + c.length.result in
     let w = c.put-a in
     PutAt (32 ∷ count_text c.args.k.0) w.result behind w.new.out c.spaced_count.new.out =
-        let w = c.put-a in
+    let w = c.put-a in
     at_all (32 ∷ count_text c.args.k.0) w.new.out w.result (omega (arith, room, w.auto.out)) c.length.ensures c.spaced_count.ensures in
     at_all (32 ∷ count_text c.args.p.requests) c.spaced_count.new.out behind
     (omega (arith, room, numbered.0, c.spaced_count.auto.out, c.put-a.auto.out))
     c.length-2.ensures c.spaced_count-2.ensures
 
 -- there is room for the rest of the line
-left : (c : goal.After-length-2) → 
+left : (c : goal.After-length-2) →
     let behind : ℕ =
-        c.put-a.result + c.length.result in
+    c.put-a.result + c.length.result in
     let a = c.args in
     behind + c.length-2.result + 3 + length (time_text a.p.longest) + length (time_text a.p.total) ≤ length a.out.now
 left c =
     let room : let k = c.args.k.0 in let p = c.args.p in
     8 + length (count_text k) + length (count_text p.requests) + length (time_text p.longest) + length (time_text p.total) ≤ length c.args.out.now =
-        omega (arith, use_length c.args.k.0 c.args.p) in
+    omega (arith, use_length c.args.k.0 c.args.p) in
     let numbered : let behind : ℕ =
-        c.put-a.result + c.length.result in
+    c.put-a.result + c.length.result in
     let w = c.put-a in
     PutAt (32 ∷ count_text c.args.k.0) w.result behind w.new.out c.spaced_count.new.out =
-        let w = c.put-a in
+    let w = c.put-a in
     at_all (32 ∷ count_text c.args.k.0) w.new.out w.result (omega (arith, room, w.auto.out)) c.length.ensures c.spaced_count.ensures in
     let behind : ℕ =
-        c.put-a.result + c.length.result in
+    c.put-a.result + c.length.result in
     let requested : let behind : ℕ =
-        c.put-a.result + c.length.result in
+    c.put-a.result + c.length.result in
     PutAt (32 ∷ count_text c.args.p.requests) behind (behind + c.length-2.result) c.spaced_count.new.out c.spaced_count-2.new.out =
-        at_all (32 ∷ count_text c.args.p.requests) c.spaced_count.new.out behind
+    at_all (32 ∷ count_text c.args.p.requests) c.spaced_count.new.out behind
     (omega (arith, room, numbered.0, c.spaced_count.auto.out, c.put-a.auto.out))
     c.length-2.ensures c.spaced_count-2.ensures in
     omega (arith, room, numbered.0, requested.0)
