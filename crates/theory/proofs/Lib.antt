@@ -1,6 +1,7 @@
 -- The laws of the analysis.
 --   CasesHold     the computed cases
 --   WorkLaws      jobs_rise, uncapped_rises; workload_rises, workload_grows, workload_window, workload_less, workload_none; ceil_div_rises, ceil_div_whole
+--   SamePeriods   same_periods, a step of workload_grows
 --   LeastLaws     Rises, From, from-start, from-step, past; least_unique, least_none, keeps-bound
 --   RoundLaws     round_repeats, round_passes, round_goes_on; no-end, counts_once, counts_more, counts_unique
 --   AllowanceLaws open_rounds, settled_rounds, going_open, open-above, open_count, rounds_most, stays
@@ -11,6 +12,7 @@
 --   BoundLaws     terms_keep, capped_keeps
 pub mod CasesHold
 pub mod WorkLaws
+pub mod SamePeriods
 pub mod LeastLaws
 pub mod RoundLaws
 pub mod AllowanceLaws

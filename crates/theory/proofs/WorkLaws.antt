@@ -6,6 +6,7 @@ use native.Mathlib.Nat.{le_refl, mul-le-mul_right, mul-le-mul_left, div-mul-le_s
 use native.Mathlib.Decide.{dec_lt, ℕ_discrete}
 use native.Mathlib.Omega.{arith}
 use Rattle.theory.specs.Work.{jobs, uncapped, workload, ceil_div}
+use Rattle.theory.proofs.SamePeriods.{same_periods}
 
 -- more whole periods outweigh any rest; in as many, the rest decides
 lex : (q r q' r' x : ℕ) → Dec (q < q') → q ≤ q' → (q ≡ q' → r ≤ r') → q * x + min x r ≤ q' * x + min x r'
@@ -57,11 +58,6 @@ workload_none T D zero = refl
 workload_none T D (suc t) = omega arith
 
 -- ---- never less for more units, up to D. With D = x + d + e, a is t + d + e for x units and t + e for x + d: as many whole periods, or one less
-
-same_periods : (q t T x d e : ℕ) → q * T ≤ t + e → (z : ℕ) → q ≡ z
-    → min t (q * x + min x (t + (d + e) - q * T)) ≤ min t (q * (x + d) + min (x + d) (t + e - q * T))
-same_periods q t T x d e l zero z = rw z (omega arith)
-same_periods q t T x d e l (suc k) z = let p : 1 * d ≤ q * d = mul-le-mul_right d (omega arith) in omega arith
 
 one_less : (q t T x d e : ℕ) → x + d + e ≤ T → suc q * T ≤ t + (d + e) → t + e < q * T + T
     → suc q * x + min x (t + (d + e) - suc q * T) ≤ q * (x + d) + min (x + d) (t + e - q * T)

@@ -12,7 +12,7 @@ use Rattle.basics.proofs.ChoiceLaws.{only_below}
 use Rattle.basics.proofs.SumLaws.{sum_bound}
 use Rattle.basics.proofs.CountLaws.{sum_swap, count_alone}
 use Rattle.theory.specs.Work.{jobs, uncapped, workload}
-use Rattle.windows.specs.Sporadic.{Sporadic, served, InWindows}
+use Rattle.windows.specs.Sporadic.{Sporadic, served}
 use Rattle.windows.proofs.PeriodLaws.{Portions, portions_sum}
 
 -- ---- how often a test holds at the instants A, .., A + t − 1
@@ -90,6 +90,3 @@ served_most T D x A (suc t) r ticks pos hx hD c K =
     let v : served ticks K A (suc t) ≤ suc t * 1 =
     sum_bound (suc t) 1 (λ s. count_to K (ticks (A + s))) (λ s l. alone T D x (A + suc t) r ticks c (A + s) (omega arith) hD K) in
     omega arith
-
-pub in_windows : InWindows
-in_windows = record { most = served_most }
