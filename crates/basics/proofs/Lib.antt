@@ -1,18 +1,18 @@
 -- Each word's laws, stated once.
---   ChoiceLaws       stops, passes, and_true, or_neither, pick_when, within-in, within-low, within_high, within_true, only-below, only_le, only_when, only_some
---   SumLaws          sum_none, sum-more, sum_le, sum_rises, sum_part, sum-bound, sum_eq, sum-one, sum_add, sum_some, sum_wider, sum_found, sum-first, sum_scale
+--   ChoiceLaws       stops, passes, and_true, or_neither, pick_when, within_in, within_low, within_high, within_true, only_below, only_le, only_when, only_some
+--   SumLaws          sum_none, sum_more, sum_le, sum_rises, sum_part, sum_bound, sum_eq, sum_one, sum_add, sum_some, sum_wider, sum_found, sum_first, sum_scale
 --   MaxLaws          max_more, max_bound, max_le, max_rises, max_wider, max_part
---   AllLaws          all-none, all-more, all_at, all_fails, all-hold, all_zero
---   FirstIndexLaws   first_none, first-more, First, first_is, first-by, first_here, first_eq
---   CountLaws        count_on, count_off, count-none, count_some, count_one, count_found, count-most, count_but, count_missed, sum-ones, sum_swap, count_number, count_alone
---   OnceLaws         both, and-both, pick-is, is_pick, some_count, first-below; Once, first_once, count_once, once_count
---   JoinLaws         join_none, join-more, join_length, join_room, join_eq, join_bound, join_even, join_at, join_from, join_through;
+--   AllLaws          all_none, all_more, all_at, all_fails, all_hold, all_zero
+--   FirstIndexLaws   first_none, first_more, First, first_is, first_by, first_here, first_eq
+--   CountLaws        count_on, count_off, count_none, count_some, count_one, count_found, count_most, count_but, count_missed, sum_ones, sum_swap, count_number, count_alone
+--   OnceLaws         both, and_both, pick_is, is_pick, some_count, first_below; Once, first_once, count_once, once_count
+--   JoinLaws         join_none, join_more, join_length, join_room, join_eq, join_bound, join_even, join_at, join_from, join_through;
 --                    join_whole, join_past, join_rest
---   RowLaws          row_length, row-at, row-is, row_eq; over_length, over-none, over_more, over_same; back-none, back-more, back_all
+--   RowLaws          row_length, row_at, row_is, row_eq; over_length, over_none, over_more, over_same; back_none, back_more, back_all
 --   FallingLaws      at_most_more, insert_descends, falling_descends, take_descends, insert_front, insert_take, insert_length, falling_length
 --   LargestLaws      largest_agrees, largest_more, largest_all
---   FillLaws         restAt, back_at, whole-part, rest_length, back_plain, back_length; Filled, filled-none, filled_bytes, filled_part, filled_byte,
---                    filled-copy, filled_copied; put_none, put-all
+--   FillLaws         rest_at, back_at, whole_part, rest_length, back_plain, back_length; Filled, filled_none, filled_bytes, filled_part, filled_byte,
+--                    filled_copy, filled_copied; put_none, put_all
 --   CasesHold        the computed cases
 pub mod ChoiceLaws
 pub mod SumLaws

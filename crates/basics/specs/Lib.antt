@@ -1,9 +1,9 @@
 -- The words that definitions are made of.
 --   Choice   pick, only, within
---   Over     sumTo, countTo, max_to, all_to, first_to, join_to, rowTo: over the indices below n
---   Largest  sumLargest: the sum of the A largest of a row
---   Text     bytes "cpus 2\n", put_into, lineOf
---   Exactly  _exactly-if_
+--   Over     sum_to, count_to, max_to, all_to, first_to, join_to, row_to: over the indices below n
+--   Largest  sum_largest: the sum of the A largest of a row
+--   Text     bytes "cpus 2\n", put_into, line_of
+--   Exactly  ◌exactly_if◌
 --   Determined   when a contract determines the answer
 --   Cases    computed: the sum of the A largest
 pub mod Choice

@@ -18,7 +18,7 @@
 --   FieldBack     the text of a number states it, and is read back
 --   TextGroups    the group lines of an accepted table's text state its groups
 --   TextFigures   the text of an accepted table states its figures
---   Back          text_fits, reads_back, rewrites, same-text
+--   Back          text_fits, reads_back, rewrites, same_text
 pub mod SplitLaws
 pub mod SaysLaws
 pub mod PutRows

@@ -15,7 +15,8 @@ use Rattle.theory.specs.Work.{workload}
 use Rattle.theory.specs.View.{View, level, resource, is_above, over_resources, largest_below, uses, ceiling}
 use Rattle.theory.specs.Demand.{shared_CT, other_CT, all_CT, high_CT, DB, load_of, demand_of}
 use Rattle.theory.specs.Bound.{Least}
-use Rattle.theory.proofs.WorkLaws.{workload_rises, workload_grows}
+use Rattle.theory.proofs.WorkLaws.{workload_rises}
+use Rattle.theory.proofs.GrowLaws.{workload_grows}
 use Rattle.theory.proofs.PassLaws.{ceiling_above}
 use Rattle.theory.proofs.DemandLaws.{Runs, TermsGrow}
 use Rattle.theory.proofs.BoundLaws.{terms_keep}

@@ -22,7 +22,8 @@ use Rattle.theory.specs.Demand.{shared_CT, other_CT, all_CT, high_CT, DB, S, O, 
 use Rattle.theory.specs.Bound.{Least}
 use Rattle.theory.specs.Rounds.{counted_from}
 use Rattle.theory.specs.Tables.{merged_view, counted_by}
-use Rattle.theory.proofs.WorkLaws.{uncapped_rises, workload_window, workload_less, workload_rises, workload_grows}
+use Rattle.theory.proofs.WorkLaws.{uncapped_rises, workload_window, workload_less, workload_rises}
+use Rattle.theory.proofs.GrowLaws.{workload_grows}
 use Rattle.theory.proofs.BoundLaws.{capped_keeps}
 use Rattle.analysis.proofs.ByRounds.{bounds_runs, by_rounds}
 use Rattle.page.specs.declared.Columns.TheVariants.{Five}

@@ -4,7 +4,7 @@
 --   CardLaws     a card and the room for it, as tests and as facts; what it is that nothing is refused
 --   Complete     the blocks left are complete, as a test and as a fact; the archive that is made of them
 --   Readable     readable, nothing_invented
---   Recovered    given-back, returned_as_it_is
+--   Recovered    given_back, returned_as_it_is
 --   Called       a card with bad blocks is listed, put in order and refused as it calls for
 --   Listed       after which refusals the list is written
 --   CasesHold    the cards, computed

@@ -4,7 +4,7 @@
 --   BlockIs      a good block is the block of what it says
 --   BlockBack    a block that was written is good, and says what was written
 --   Parts        an archive and its blocks; what an accepted archive is
---   Undo         reads_back, writes-again, same_archive, one_archive, passes_check
+--   Undo         reads_back, writes_again, same_archive, one_archive, passes_check
 --   Changed      one byte changed changes the check
 --   Noticed      an accepted archive with one byte changed is refused
 --   Called       an archive is refused exactly as it calls for, and then gives no table

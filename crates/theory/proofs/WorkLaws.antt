@@ -6,7 +6,6 @@ use native.Mathlib.Nat.{le_refl, mul-le-mul_right, mul-le-mul_left, div-mul-le_s
 use native.Mathlib.Decide.{dec_lt, ℕ_discrete}
 use native.Mathlib.Omega.{arith}
 use Rattle.theory.specs.Work.{jobs, uncapped, workload, ceil_div}
-use Rattle.theory.proofs.SamePeriods.{same_periods}
 
 -- more whole periods outweigh any rest; in as many, the rest decides
 lex : (q r q' r' x : ℕ) → Dec (q < q') → q ≤ q' → (q ≡ q' → r ≤ r') → q * x + min x r ≤ q' * x + min x r'
@@ -17,7 +16,7 @@ lex q r q' r' x (no n) h k =
     rw e (omega arith)
 
 -- q whole periods T in a, q' whole periods T' in a'
-le_quot : (q q' T T' a a' : ℕ) → q * T ≤ a → a' < q' * T' + T' → T' ≤ T → a ≤ a' → Dec (q' < q) → q ≤ q'
+pub le_quot : (q q' T T' a a' : ℕ) → q * T ≤ a → a' < q' * T' + T' → T' ≤ T → a ≤ a' → Dec (q' < q) → q ≤ q'
 le_quot q q' T T' a a' l l' hT ha (yes m) = absurd (omega (arith, mul-le-mul_right T' m, mul-le-mul_left q hT))
 le_quot q q' T T' a a' l l' hT ha (no m) = omega arith
 
@@ -56,48 +55,6 @@ pub workload_none : (T D t : ℕ) → workload T D t 0 ≡ 0
 unfolding workload uncapped jobs
 workload_none T D zero = refl
 workload_none T D (suc t) = omega arith
-
--- ---- never less for more units, up to D. With D = x + d + e, a is t + d + e for x units and t + e for x + d: as many whole periods, or one less
-
-one_less : (q t T x d e : ℕ) → x + d + e ≤ T → suc q * T ≤ t + (d + e) → t + e < q * T + T
-    → suc q * x + min x (t + (d + e) - suc q * T) ≤ q * (x + d) + min (x + d) (t + e - q * T)
-one_less q t T x d e k l m = omega arith
-
-either : (q p t T x d e : ℕ) → x + d + e ≤ T → q * T ≤ t + (d + e) → p * T ≤ t + e → t + e < p * T + T → p ≤ q → q ≤ suc p → Dec (q ≡ p)
-    → min t (q * x + min x (t + (d + e) - q * T)) ≤ min t (p * (x + d) + min (x + d) (t + e - p * T))
-either q p t T x d e h l l' m lo hi (yes z) = let u : q * T ≤ t + e = rw z l' in rw (← z) (same_periods q t T x d e u q refl)
-either q p t T x d e h l l' m lo hi (no n) =
-    let z : q ≡ suc p = omega arith in
-    let u : suc p * T ≤ t + (d + e) = rw (← z) l in
-    rw z (omega (arith, one_less p t T x d e h u m))
-
-jobs_grow : (T t x d e : ℕ) → 0 < T → x + d + e ≤ T → min t (jobs T x (t + (d + e))) ≤ min t (jobs T (x + d) (t + e))
-unfolding jobs
-jobs_grow T t x d e pos h =
-    let a = t + (d + e) in
-    let b = t + e in
-    let q = a / T in
-    let p = b / T in
-    let l : q * T ≤ a = div-mul-le_self a T in
-    let m : a < q * T + T = lt-div-mul-add pos in
-    let l' : p * T ≤ b = div-mul-le_self b T in
-    let m' : b < p * T + T = lt-div-mul-add pos in
-    either q p t T x d e h l l' m'
-    (le_quot p q T T b a l' m (le_refl T) (omega arith) (dec_lt q p))
-    (le_quot q (suc p) T T a (b + T) l (omega arith) (le_refl T) (omega arith) (dec_lt (suc p) q))
-    (ℕ_discrete q p)
-
-grow : (T t x d e : ℕ) → 0 < T → x + d + e ≤ T → workload T (x + d + e) t x ≤ workload T (x + d + e) t (x + d)
-unfolding workload uncapped
-grow T zero x d e pos h = le_refl 0
-grow T (suc t) x d e pos h =
-    subst₂ (λ (a b : ℕ). min (suc t) (jobs T x a) ≤ min (suc t) (jobs T (x + d) b)) (omega arith) (omega arith)
-    (jobs_grow T (suc t) x d e pos h)
-
-pub workload_grows : (T D t x x' : ℕ) → 0 < T → D ≤ T → x ≤ x' → x' ≤ D → workload T D t x ≤ workload T D t x'
-workload_grows T D t x x' pos h l k =
-    subst₂ (λ (E y : ℕ). workload T E t x ≤ workload T E t y) (omega arith) (omega arith)
-    (grow T t x (x' - x) (D - x') pos (omega arith))
 
 -- q is at most n / m rounded up, q' at least n' / m'
 le_ceil : (q q' m m' n n' : ℕ) → q * m ≤ n + (m - 1) → n' + (m' - 1) < q' * m' + m' → 0 < m' → m' ≤ m → n ≤ n'
