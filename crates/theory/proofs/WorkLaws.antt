@@ -1,9 +1,9 @@
 -- The laws of the workload, once for all x, and of the quotient rounded up.
 -- Assumes nothing.
 use Prim.Native.Nat.{ℕ, zero, suc, ◌+◌, ◌-◌, ◌*◌, ◌/◌, ◌≤◌, ◌<◌, min, zero-le}
-use mathlib.Core.Path.{◌≡◌, refl, subst₂}
-use native.Mathlib.Nat.{le_refl, mul-le-mul_right, mul-le-mul_left, div-mul-le_self, lt-div-mul-add, add-mul-div_right, not-suc-le-zero}
-use native.Mathlib.Decide.{dec_lt, ℕ_discrete}
+use mathlib.Core.Path.{◌≡◌, refl}
+use native.Mathlib.Nat.{mul-le-mul_right, mul-le-mul_left, div-mul-le_self, lt-div-mul-add, add-mul-div_right, not-suc-le-zero}
+use native.Mathlib.Decide.{dec_lt}
 use native.Mathlib.Omega.{arith}
 use Rattle.theory.specs.Work.{jobs, uncapped, workload, ceil_div}
 
