@@ -17,7 +17,7 @@ bound_determined a x y r s p q = p ∙ sym q
 pub analyse_all_determined : Determined (analyse_all.Learnt tt)
 analyse_all_determined a x y r s p q = λ j. record { answer = (p.0 ∙ sym q.0) j; rows = (p.1 ∙ sym q.1) j }
 
--- `analyse` is walked by hand, and the checker makes no `Learnt` of it: this is over `FillsRow`, which is the whole of its contract
+-- of `analyse` over `FillsRow`, which is the whole of its contract
 pub analyse_determined : (t : Table) (allowance : ℕ) (row : List Record) (r s : Checked) (x y : List Record)
     → FillsRow t allowance row r x → FillsRow t allowance row s y → (r ≡ s) × (x ≡ y)
 analyse_determined t allowance row r s x y p q = (p.0 ∙ sym q.0, p.1 ∙ sym q.1)

@@ -108,8 +108,7 @@ pub record Entries : Type 2 where
   pub bound : Answers (bound.Learnt tt) (λ a. bound_of a.0 a.1.0 a.1.1.0)
   pub wait : Answers (wait.Learnt tt) (λ a. wait_answer a.0 a.1.0)
   pub wait_all : Answers (wait_all.Learnt tt) (λ a. all_waits a.0)
-  -- `analyse` is walked by hand, and the checker makes no `Learnt` of it: this is its `ensures` itself, as the checker has it, at any arguments a, answer r
-  -- and arguments at exit x; it says that the row is filled
+  -- of `analyse` its `ensures` itself, as the checker has it, at any arguments a, answer r and arguments at exit x: it says that the row is filled
   pub analyse : {M : Type 1} {𝓤 : Ura M} (𝓛 : Logic 𝓤) (mem : Memory → SProp 𝓤) (run : Routine → Fun 𝓤) (κs : Lfts 1)
       (a : Args analyse.signature κs) (r : Checked) (x : AtExit analyse.ended κs)
       → ent 𝓤 ((analyse.clauses 𝓛 mem run κs a).ensures tt r x) (fact 𝓤 (FillsRow a.0 a.1.0 a.1.1.0.now r x.1.1.0.now))
