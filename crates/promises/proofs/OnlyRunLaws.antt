@@ -15,9 +15,10 @@ use Rattle.table.specs.declared.Resource.{Resource}
 use Rattle.table.specs.Limits.{max_resources}
 use Rattle.theory.specs.View.{View, level, resource, is_above, over_resources, largest_below, uses, ceiling}
 use Rattle.theory.specs.Demand.{shared_CT, other_CT, all_CT, high_CT}
-use Rattle.promises.specs.Reads.{Above, processors, tasks, run, deadline, requests, period_above, deadline_above, shared, other, free, period_below, deadline_below, high, longest, AgreeOn, SameRead, OnlyRun}
+use Rattle.promises.specs.Reads.{processors, tasks, run, deadline, requests, period_above, deadline_above, shared, other, free, period_below, deadline_below, high, longest, AgreeOn, SameRead, OnlyRun}
+use Rattle.promises.proofs.ReachedLaws.{NotReached, run_eq}
 
-module _ (j : Level) (v w : View) (o : OnlyRun j v w) (i : ℕ) (hi : i < v.n) (above : Above (level i) j) where
+module _ (j : Level) (v w : View) (o : OnlyRun j v w) (i : ℕ) (hi : i < v.n) (above : NotReached (level i) j) where
   uses_eq : (l k : ℕ) → l < v.n → k < max_resources → uses w (level l) (resource k) ≡ uses v (level l) (resource k)
   uses_eq l k h r = ap (ltb 0) (o.N l k h r tt)
 
@@ -29,10 +30,6 @@ module _ (j : Level) (v w : View) (o : OnlyRun j v w) (i : ℕ) (hi : i < v.n) (
   locks_eq : (p q : Resource → Bool) → ((k : ℕ) → k < max_resources → q (resource k) ≡ p (resource k)) → (l : ℕ) → l < v.n
       → over_resources (λ k. only (q k) (w.CT (level l) k)) ≡ over_resources (λ k. only (p k) (v.CT (level l) k))
   locks_eq p q e l h = sum_eq max_resources _ _ (λ k r. ap₂ only (e k r) (o.CT l k h r tt))
-
-  -- a task above i, and i itself, is not j
-  run_eq : (l : ℕ) → l < v.n → Above (level l) j → w.C (level l) ≡ v.C (level l)
-  run_eq l h a = o.C l h (λ e. let z : (level l).0 ≡ j.0 = ap (λ (x : Level). x.0) e in omega arith)
 
   longest_eq : (k : ℕ) → k < max_resources → largest_below w (level i) (λ l. w.c l (resource k)) ≡ largest_below v (level i) (λ l. v.c l (resource k))
   longest_eq k r =
@@ -46,14 +43,14 @@ module _ (j : Level) (v w : View) (o : OnlyRun j v w) (i : ℕ) (hi : i < v.n) (
   unfolding AgreeOn shared_CT other_CT all_CT high_CT
   same_above processors = o.cpus
   same_above tasks = o.n
-  same_above run = run_eq i hi above
+  same_above run = run_eq j v w o i hi above
   same_above deadline = o.D i hi tt
   same_above requests = λ k r. o.N i k hi r tt
   same_above period_above = λ l h a read. o.T l h tt
   same_above deadline_above = λ l h a read. o.D l h tt
   same_above shared = λ l h a. locks_eq (uses v (level i)) (uses w (level i)) (λ k r. uses_eq i k hi r) l h
   same_above other = λ m l h a. locks_eq (λ k. not (uses v (level i) k)) (λ k. not (uses w (level i) k)) (λ k r. ap not (uses_eq i k hi r)) l h
-  same_above free = λ m l h a. ap₂ ◌-◌ (run_eq l h (omega arith)) (sum_eq max_resources _ _ (λ k r. o.CT l k h r tt))
+  same_above free = λ m l h a. ap₂ ◌-◌ (run_eq j v w o l h (omega arith)) (sum_eq max_resources _ _ (λ k r. o.CT l k h r tt))
   same_above period_below = λ l h a read. o.T l h tt
   same_above deadline_below = λ l h a read. o.D l h tt
   same_above high = λ m l h a.

@@ -35,6 +35,7 @@ use Rattle.promises.proofs.ThreeTasks.{some_allowed}
 use Rattle.promises.proofs.RoundsHold.{rounds_hold}
 use Rattle.promises.proofs.ReadsLaws.{fine_fitting, units_read_lem, read_units}
 use Rattle.promises.proofs.SameReadLaws.{demand_same, units_same}
+use Rattle.promises.proofs.ReachedLaws.{NotReached}
 use Rattle.promises.proofs.OnlyRunLaws.{same_above}
 use Rattle.promises.proofs.EachReadHolds.{each_read}
 
@@ -55,7 +56,7 @@ printed columns s s' a b allowance i row row' p q h r =
     let e : Known (row' i) ≡ Known (row i) = sym (q.answer i (omega (arith, r.related tasks))) ∙ same a b i r h allowance ∙ p.answer i h in
     cc
 
-run_below : (j : Level) → SameAnswers (λ v w i. Above i j × OnlyRun j v w)
+run_below : (j : Level) → SameAnswers (λ v w i. NotReached i j × OnlyRun j v w)
 run_below j a b i r h =
     same a b i (record { first = r.first; second = r.second; related = same_above j (merged_view a) (merged_view b) r.related.1 i h r.related.0 }) h
 

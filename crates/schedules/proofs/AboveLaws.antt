@@ -21,7 +21,8 @@ use Rattle.schedules.proofs.FactLaws.{Obeys, waits_for_lem}
 use Rattle.schedules.proofs.ProgressLaws.{unit_below}
 use Rattle.schedules.proofs.LoadLaws.{works}
 use Rattle.schedules.proofs.TallyLaws.{among_suc}
-use Rattle.schedules.proofs.InstantLaws.{or_first, or_second, lent, over, priority_from}
+use Rattle.schedules.proofs.LentLaws.{lent}
+use Rattle.schedules.proofs.InstantLaws.{or_first, or_second, over, priority_from}
 use Rattle.schedules.proofs.UnitLaws.{own_lock, other_lock, high_lock, no_lock, before, budget, cut, as_S, as_O, as_F}
 
 module _ (v : View) (J : JobSet) (S : Schedule) (E : ℕ) (fit : Constrained v) (o : Generated v J) (p : Obeys v J S E) (i : ℕ) where

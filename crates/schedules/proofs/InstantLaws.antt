@@ -19,10 +19,7 @@ use Rattle.schedules.specs.Jobs.{JobSet}
 use Rattle.schedules.specs.Schedule.{Schedule, pending, waits_for, waits, lends, priority}
 use Rattle.schedules.proofs.FactLaws.{Obeys, waits_for_lem}
 use Rattle.schedules.proofs.TallyLaws.{count_into}
-
-or_true : (a b : Bool) → (a || b) ≡ true → (A : Type 0) → (a ≡ true → A) → (b ≡ true → A) → A
-or_true true b e A f g = f refl
-or_true false b e A f g = g e
+use Rattle.schedules.proofs.LentLaws.{lent}
 
 pub or_first : (a b : Bool) → a ≡ true → (a || b) ≡ true
 or_first a b e = rw e
@@ -40,10 +37,6 @@ module _ (v : View) (J : JobSet) (S : Schedule) (s : ℕ) where
   holder_free : (h : ℕ) → S.holds s h ≡ true → (b : Bool) → waits v J S s h ≡ b → b ≡ false
   holder_free h e true w = let x = waited h w in both e (waits_for_lem J S s h x.0 x.2).lacking
   holder_free h e false w = refl
-
-  -- a task's priority is that of itself, or of one who waits for its lock, and each of these counts
-  pub lent : (l w : ℕ) → lends J S s l w ≡ true → (A : Type 0) → (w ≡ l → A) → (waits_for J S s w l ≡ true → A) → A
-  lent l w e A f g = or_true (eqb w l) (waits_for J S s w l) e A (λ x. f (eqb-true w l x)) g
 
   own_lends : (l : ℕ) → lends J S s l l ≡ true
   own_lends l = or_first (eqb l l) _ (eq-eqb l l refl)
@@ -115,7 +108,7 @@ module _ (v : View) (J : JobSet) (S : Schedule) (s : ℕ) where
         no_tie : ((g : ℕ) → g < v.n → S.runs s g ≡ true → waits_for J S s i g ≡ true → ⊥) → (g : ℕ) → g < v.n → S.runs s g ≡ true → priority v J S s g ≡ i → ⊥
         no_tie f g k a z =
             let q : lends J S s g i ≡ true = subst (λ (x : ℕ). lends J S s g x ≡ true) z (priority_from g k) in
-            lent g i q ⊥ (λ x. both (subst (λ (y : ℕ). S.runs s y ≡ true) (sym x) a) n) (λ x. f g k a x)
+            lent v J S s g i q ⊥ (λ x. both (subst (λ (y : ℕ). S.runs s y ≡ true) (sym x) a) n) (λ x. f g k a x)
 
         none : waits v J S s i ≡ false → (g : ℕ) → g < v.n → waits_for J S s i g ≡ true → ⊥
         none w g k x = both x ((first_is v.n (waits_for J S s i)).clear g (omega (arith, ltb-false (first_to v.n (waits_for J S s i)) v.n w)))
@@ -141,6 +134,6 @@ module _ (v : View) (J : JobSet) (S : Schedule) (s : ℕ) where
             let rh = (and_true (S.runs s h) _ a).0 in
             let rg = (and_true (S.runs s g) _ c).0 in
             let fg : lends J S s g (priority v J S s h) ≡ true = rw e (priority_from g m) in
-            lent h (priority v J S s h) (priority_from h l) (h ≡ g)
-            (λ x. lent g (priority v J S s h) fg (h ≡ g) (λ y. sym x ∙ y) (λ y. absurd (runs_free h g l m rh (subst (λ (z : ℕ). waits_for J S s z g ≡ true) x y))))
-            (λ x. lent g (priority v J S s h) fg (h ≡ g) (λ y. absurd (runs_free g h m l rg (subst (λ (z : ℕ). waits_for J S s z h ≡ true) y x))) (λ y. same_holder (priority v J S s h) h g l m x y))
+            lent v J S s h (priority v J S s h) (priority_from h l) (h ≡ g)
+            (λ x. lent v J S s g (priority v J S s h) fg (h ≡ g) (λ y. sym x ∙ y) (λ y. absurd (runs_free h g l m rh (subst (λ (z : ℕ). waits_for J S s z g ≡ true) x y))))
+            (λ x. lent v J S s g (priority v J S s h) fg (h ≡ g) (λ y. absurd (runs_free g h m l rg (subst (λ (z : ℕ). waits_for J S s z h ≡ true) y x))) (λ y. same_holder (priority v J S s h) h g l m x y))

@@ -3,6 +3,7 @@
 --   ProgressLaws     what a task has run of each job: ran, ran_most; unit_below, job_rises, job_most, stay, moved
 --   TallyLaws        counting: count_into, by the lock (count_among), by rank (rank_low, rank_mid, rank_high)
 --   LoadLaws         what a task runs in a window of a run is at most its workload: load
+--   LentLaws         who lends a task its priority: lent
 --   InstantLaws      why a job that is there does not run: why; at most i run above i: above_most
 --   RequestLaws      one request of a job waits for one request below it: staged, found
 --   BlockerLaws      for how long: request_most
@@ -27,6 +28,7 @@ pub mod FactLaws
 pub mod ProgressLaws
 pub mod TallyLaws
 pub mod LoadLaws
+pub mod LentLaws
 pub mod InstantLaws
 pub mod RequestLaws
 pub mod BlockerLaws
