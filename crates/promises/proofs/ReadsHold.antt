@@ -29,7 +29,7 @@ use Rattle.promises.specs.NoEasier.{Related}
 use Rattle.promises.specs.NotEmpty.{on, Moves, Lost}
 use Rattle.page.specs.declared.Columns.{Columns}
 use Rattle.promises.specs.Rounds.{PrintsRows}
-use Rattle.promises.specs.Reads.{Above, Reads, FigureKind, processors, tasks, run, deadline, requests, period_above, deadline_above, shared, other, free, period_below, deadline_below, high, longest, AgreeOn, SameRead, SameBut, SameWhereRead, SameByFirst, SameAnswers, OnlyRun, VerdictReads}
+use Rattle.promises.specs.Reads.{Reads, FigureKind, processors, tasks, run, deadline, requests, period_above, deadline_above, shared, other, free, period_below, deadline_below, high, longest, AgreeOn, SameRead, SameBut, SameWhereRead, SameByFirst, SameAnswers, OnlyRun, VerdictReads}
 use Rattle.promises.proofs.Demand2Holds.{demand2}
 use Rattle.promises.proofs.ThreeTasks.{some_allowed}
 use Rattle.promises.proofs.RoundsHold.{rounds_hold}

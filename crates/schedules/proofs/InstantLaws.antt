@@ -6,7 +6,7 @@ use mathlib.Core.Bool.{Bool, true, false, ◌&&◌, ◌||◌}
 use native.Mathlib.Nat.{le_refl, le_trans}
 use native.Mathlib.Decide.{dec_lt}
 use native.Mathlib.Omega.{arith}
-use borrow.Author.Tests.{eq-eqb, eqb-true, ltb-true, lt-ltb, ltb-false, leb-true}
+use borrow.Author.Tests.{eq-eqb, ltb-true, lt-ltb, ltb-false, leb-true}
 use lib.Dec.{eqb, ltb, leb}
 use Rattle.basics.specs.Choice.{only}
 use Rattle.basics.specs.Over.{count_to, first_to}
