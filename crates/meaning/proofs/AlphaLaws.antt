@@ -28,15 +28,15 @@ alpha_for xs i = (task_for xs i).alpha
 
 pub counted : {last : ℕ} {xs : List TaskFigures} → GoodTasks last xs → count_to (length xs) (λ i. ltb 0 (alpha_for xs i)) ≡ alphas_of xs
 unfolding sum_to task_of
-counted GoodTasks.no_task_told = refl
+counted GoodTasks.no_tasks = refl
 counted (GoodTasks.one_task {x = x} {xs} g a r) =
     sum_first (length xs) (λ i. only (ltb 0 (alpha_for (x ∷ xs) i)) 1) ∙ rw (held_counted a, counted r)
 
 pub falls : {last : ℕ} {xs : List TaskFigures} (i : ℕ) → GoodTasks last xs → suc i < length xs → 1 ≤ alpha_for xs i → alpha_for xs (suc i) ≤ alpha_for xs i
 unfolding task_of
-falls i GoodTasks.no_task_told h l = absurd (omega arith)
+falls i GoodTasks.no_tasks h l = absurd (omega arith)
 falls (suc i) (GoodTasks.one_task g a r) h l = falls i r (omega arith) l
-falls zero (GoodTasks.one_task {x = x} g a GoodTasks.no_task_told) h l = absurd (omega arith)
+falls zero (GoodTasks.one_task {x = x} g a GoodTasks.no_tasks) h l = absurd (omega arith)
 falls {last} zero (GoodTasks.one_task {x = x} g a (GoodTasks.one_task {x = y} k b r)) h l = go x.alpha y.alpha b l
   where
     go : (u v : AlphaFigure) → GoodAlpha (last_with last u) v → 1 ≤ held_alpha u → held_alpha v ≤ held_alpha u

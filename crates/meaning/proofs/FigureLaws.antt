@@ -90,7 +90,7 @@ good_task x g a =
     }
 
 good_tasks : {last : ℕ} {xs : List TaskFigures} (i : ℕ) → GoodTasks last xs → i < length xs → GoodTask (task_for xs i)
-good_tasks i GoodTasks.no_task_told h = absurd (not-suc-le-zero h)
+good_tasks i GoodTasks.no_tasks h = absurd (not-suc-le-zero h)
 good_tasks zero (GoodTasks.one_task {x = x} g a r) h = good_task x g a
 good_tasks (suc i) (GoodTasks.one_task g a r) h = good_tasks i r (omega arith)
 
@@ -133,7 +133,7 @@ good_table f g =
       cpus_least = g.so_far.cpus_least;
       cpus_most = g.so_far.cpus_most;
       groups_most = λ k h. rw (row_at max_resources k (group_for f.groups) 0 h) (group_most k g.so_far.groups);
-      all_or_none_reads = table_alphas f g;
+      all_or_none = table_alphas f g;
       never_rises = table_falls f g;
       task = λ i h. rw (row_at max_tasks i (task_for f.tasks) no_task (omega (arith, g.so_far.tasks_most))) (good_tasks i g.so_far.tasks h);
     }

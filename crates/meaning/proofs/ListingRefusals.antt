@@ -71,7 +71,7 @@ answered s (CallsFor.at_line before l rest {n} {number} {f} m e w b c) =
 answered s (CallsFor.not_ended before l {n} {f} m e w h b) =
     tells s BadForm n (goes_on s m l _ e b (λ t. ap (λ (y : Reading). y.answer) (stop_end t (left_by f) n w) ∙ rw (open_end w h true)))
 answered s (CallsFor.empty e) = tells s BadForm 1 (rw e (ap (λ (y : Reading). y.answer) (stop_end empty_table no_lines 1 no_byte)))
-answered s (CallsFor.no_task_told {f} m a g e) =
+answered s (CallsFor.no_tasks {f} m a g e) =
     tells s NoTask 2
     (goes_on s m [] _ (sym (append-nil s)) (some_lines a g)
     (λ t. ap (λ (y : Reading). y.answer) (stop_end t (left_by f) (next_line f) no_byte) ∙ rw (lt-ltb 1 (next_line f) (omega arith), (left_counts f).0, e)))
@@ -114,7 +114,7 @@ end_called {s} l (some_lines {f = f} a g) = go f.tasks refl
         inl (17, 0, CallsFor.alpha_missing l a g (omega arith) (omega (arith, alphas_most f.tasks)))
 
     go : (xs : List TaskFigures) → f.tasks ≡ xs → Called s ⊎ Ends (next_line f) f
-    go [] e = inl (9, 2, CallsFor.no_task_told l a g e)
+    go [] e = inl (9, 2, CallsFor.no_tasks l a g e)
     go (x ∷ xs) e = alphas (rw e (omega arith)) _ refl
 
 module _ (s : List ℕ) (l : length s ≤ max_listing) where

@@ -91,17 +91,17 @@ uses_no_alpha rest (by_use_line a r) n h = omega arith
 -- ---- the tasks
 
 tasks_no_use : {s : List ℕ} {xs : List TaskFigures} → StatesTasks s xs → NoUse s
-tasks_no_use StatesTasks.no_task_told h = omega arith
+tasks_no_use StatesTasks.no_tasks h = omega arith
 tasks_no_use (by_task_line a b p r) h = omega arith
 
 tasks_no_alpha : {s : List ℕ} {xs : List TaskFigures} → StatesTasks s xs → NoAlphaLine s
-tasks_no_alpha StatesTasks.no_task_told h = omega arith
+tasks_no_alpha StatesTasks.no_tasks h = omega arith
 tasks_no_alpha (by_task_line a b p r) h = omega arith
 
 tasks_one : {s t : List ℕ} {xs ys : List TaskFigures} → StatesTasks s xs → StatesTasks t ys → s ≡ t → xs ≡ ys
-tasks_one StatesTasks.no_task_told StatesTasks.no_task_told e = refl
-tasks_one StatesTasks.no_task_told (by_task_line a b p r) e = absurd (omega (arith, ap first_byte e))
-tasks_one (by_task_line a b p r) StatesTasks.no_task_told e = absurd (omega (arith, ap first_byte e))
+tasks_one StatesTasks.no_tasks StatesTasks.no_tasks e = refl
+tasks_one StatesTasks.no_tasks (by_task_line a b p r) e = absurd (omega (arith, ap first_byte e))
+tasks_one (by_task_line a b p r) StatesTasks.no_tasks e = absurd (omega (arith, ap first_byte e))
 tasks_one (by_task_line {rest = z} a b p r) (by_task_line {rest = z'} a' b' p' r') e =
     let o = one_line "task" task_word (task_fields a) (task_fields a') e in
     let v = alpha_one b b' (uses_no_alpha z p (tasks_no_alpha r)) (uses_no_alpha z' p' (tasks_no_alpha r')) o.left in
@@ -116,7 +116,7 @@ abbrev NoGroupLine : List ℕ → Type 0
 NoGroupLine s = first_byte s ≡ 103 → ⊥
 
 tasks_no_group : {s : List ℕ} {xs : List TaskFigures} → StatesTasks s xs → NoGroupLine s
-tasks_no_group StatesTasks.no_task_told h = omega arith
+tasks_no_group StatesTasks.no_tasks h = omega arith
 tasks_no_group (by_task_line a b p r) h = omega arith
 
 groups_one : {s t : List ℕ} {xs ys : List GroupFigures} {rest after : List ℕ} → StatesGroups s xs → StatesGroups t ys → NoGroupLine rest → NoGroupLine after

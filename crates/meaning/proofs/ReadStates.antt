@@ -87,10 +87,10 @@ module _ (past : Past) (n : ℕ) {s : List ℕ} (m : past.tasks ≤ max_tasks) w
         text = refl;
         states_alpha = no_alpha_line;
         states_uses = StatesUses.no_use;
-        states_tasks = StatesTasks.no_task_told;
+        states_tasks = StatesTasks.no_tasks;
         good_alpha = GoodAlpha.not_given;
         good_uses = GoodUses.no_use;
-        good_tasks = GoodTasks.no_task_told;
+        good_tasks = GoodTasks.no_tasks;
         few = omega arith;
         stops = rw (add-zero n) x;
       }

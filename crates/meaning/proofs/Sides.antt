@@ -43,7 +43,7 @@ uses_sides (by_use_line {u = u} {us} a r) k = go (eqb u.K (suc k)) (uses_sides r
     go false later = later
 
 tasks_sides : {s : List ℕ} {xs : List TaskFigures} → StatesTasks s xs → (i : ℕ) → i < length xs → TaskSides (get_or xs i no_figures)
-tasks_sides StatesTasks.no_task_told i h = absurd (omega arith)
+tasks_sides StatesTasks.no_tasks i h = absurd (omega arith)
 tasks_sides (by_task_line a b p r) zero h = record { T = a.period.rounds; C = a.run.rounds; D = a.deadline.rounds; uses = uses_sides p }
 tasks_sides (by_task_line a b p r) (suc i) h = tasks_sides r i (omega arith)
 

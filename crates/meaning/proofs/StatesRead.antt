@@ -177,7 +177,7 @@ pub tasks_read : {s : List ℕ} {xs : List TaskFigures} (rest : List ℕ) (t : T
     → 1 < n → past.tasks + length xs ≤ max_tasks
     → read_text t past n (s ++ rest) ≡ read_text (store_tasks t past.tasks xs) (past_tasks past xs) (n + line_count xs) rest
 unfolding past_after
-tasks_read rest t past n StatesTasks.no_task_told GoodTasks.no_task_told h few = rw (add-zero n)
+tasks_read rest t past n StatesTasks.no_tasks GoodTasks.no_tasks h few = rw (add-zero n)
 tasks_read rest t past n (by_task_line {t = w} {c} {d} {alpha = b} {uses = s} {rest = z} {x} {xs} a o p r) (GoodTasks.one_task g j q) h few =
     let said = TaskLine x.T.held x.C.held x.D.held in
     let fresh = after_task past x.C.held in

@@ -118,7 +118,7 @@ module _ (m : ℕ) (groups : List ℕ) (n i : ℕ) (row : List Task) (h : i < le
 rows_stored : (m : ℕ) (groups : List ℕ) (i : ℕ) (row : List Task) {last : ℕ} {xs : List TaskFigures} → GoodTasks last xs → i + length xs ≤ length row
     → store_tasks (table m groups i row) i xs ≡ table m groups (i + length xs) (put_tasks row i xs)
 unfolding table_after
-rows_stored m groups i row GoodTasks.no_task_told l = rw add-zero
+rows_stored m groups i row GoodTasks.no_tasks l = rw add-zero
 rows_stored m groups i row (GoodTasks.one_task {x = x} {xs} g a r) l =
     let e : i + suc (length xs) ≡ i + 1 + length xs = omega arith in
     ap (λ (t : Table). store_tasks t (i + 1) xs) (task_stored m groups (i + 1) i row (omega arith) x g)

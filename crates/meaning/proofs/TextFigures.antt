@@ -172,8 +172,8 @@ tasks_from t a =
     join_from (TasksFrom t) t.n (λ i. task_text (task_at t i)) (λ k s h r. task_from r h (a.task k h) (a.never_rises k))
     (record {
       tasks = [];
-      states = StatesTasks.no_task_told;
-      good = λ last e. GoodTasks.no_task_told;
+      states = StatesTasks.no_tasks;
+      good = λ last e. GoodTasks.no_tasks;
       count = omega arith;
       alphas = add-zero (alphas_to t t.n);
       at = λ i j e. rw (le-ltb j t.n (omega arith));
@@ -188,7 +188,7 @@ text_states t a =
     let h = groups_from t a in
     let e : t.n ≡ length r.tasks = omega arith in
     let b : alphas_to t t.n ≡ alphas_of r.tasks = omega (arith, r.alphas) in
-    let c = (all_or_none_is (alphas_to t t.n) t.n).0 ((holds_unless _ (some_only_is t)).1 ((all_or_none_reads t).1 a.all_or_none_reads)) in (
+    let c = (all_or_none_is (alphas_to t t.n) t.n).0 ((holds_unless _ (some_only_is t)).1 ((all_or_none_reads t).1 a.all_or_none)) in (
       record { M = t.cpus; groups = h.groups; tasks = r.tasks },
       rw (append_assoc (line_of "cpus" (count_text t.cpus ∷ [])) (join_to max_resources (member_text t.groups)) (join_to t.n (λ i. task_text (task_at t i))))
           (by_cpus_line (count_text_lem t.cpus (omega arith)) h.states r.states),

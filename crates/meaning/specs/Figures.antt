@@ -63,7 +63,7 @@ pub data StatesUses : List ℕ → List UseFigures → Type 0 where
       → StatesUse k n c ct u → StatesUses rest us → StatesUses (line_of "use" (k ∷ n ∷ c ∷ ct ∷ []) ++ rest) (u ∷ us)
 
 pub data StatesTasks : List ℕ → List TaskFigures → Type 0 where
-  no_task_told : StatesTasks [] []
+  no_tasks : StatesTasks [] []
   by_task_line : {t c d alpha uses rest : List ℕ} {x : TaskFigures} {xs : List TaskFigures}
       → StatesTask t c d x.T x.C x.D → StatesAlpha alpha x.alpha → StatesUses uses x.uses → StatesTasks rest xs
       → StatesTasks (line_of "task" (t ∷ c ∷ d ∷ []) ++ (alpha ++ (uses ++ rest))) (x ∷ xs)
@@ -103,7 +103,7 @@ last_with last (alpha_of A) = A
 
 -- the tasks after an alpha `last`
 pub data GoodTasks : ℕ → List TaskFigures → Type 0 where
-  no_task_told : {last : ℕ} → GoodTasks last []
+  no_tasks : {last : ℕ} → GoodTasks last []
   one_task : {last : ℕ} {x : TaskFigures} {xs : List TaskFigures} → GoodTaskFigures x → GoodAlpha last x.alpha → GoodTasks (last_with last x.alpha) xs
       → GoodTasks last (x ∷ xs)
 

@@ -99,7 +99,7 @@ pub data CallsFor (s : List ℕ) : ℕ → ℕ → Type 0 where
   -- 2, "or an empty listing", at line 1
   empty : s ≡ [] → CallsFor s 2 1
   -- "9 comes at the end", "2 for 9", however many groups there are
-  no_task_told : {f : Figures} → length s ≤ max_listing → StatesFigures s f → GoodSoFar f → f.tasks ≡ [] → CallsFor s 9 2
+  no_tasks : {f : Figures} → length s ≤ max_listing → StatesFigures s f → GoodSoFar f → f.tasks ≡ [] → CallsFor s 9 2
   -- 17, "alpha given for some tasks only, place 0, after 9 at a listing's end"
   alpha_missing : {f : Figures} → length s ≤ max_listing → StatesFigures s f → GoodSoFar f → 1 ≤ alphas_of f.tasks → alphas_of f.tasks < length f.tasks → CallsFor s 17 0
 

@@ -54,6 +54,6 @@ archives_hold =
       reads_ungrouped = reads_ungrouped;
       passes_check = passes_check;
       noticed = noticed;
-      from_listing_back = λ s t e none ungrouped. reads_back t (listing-passes s t e) none ungrouped ∙ ap accepted (listing_clear s t e);
-      from_card_back = λ a t bytes e. (text-back t (passes_check a t e) ∙ ap accepted (card_clear a t bytes e), writes_again a t bytes e);
+      from_listing = λ s t e none ungrouped. reads_back t (listing-passes s t e) none ungrouped ∙ ap accepted (listing_clear s t e);
+      from_card = λ a t bytes e. (text-back t (passes_check a t e) ∙ ap accepted (card_clear a t bytes e), writes_again a t bytes e);
     }

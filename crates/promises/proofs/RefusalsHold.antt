@@ -149,14 +149,14 @@ module _ (t : Table) (room : ℕ) where
       from_two (table_fault t) _ k p (λ x. ArchivingCallsFor.own (called t x))
       (λ a. from_two grouped (unless (leb (block_size * t.n) room) TooShort 0) k p
       (from_rule (ArchivingCallsFor t room) (not (has_group t.groups)) HasGroup 0 k p
-      (λ e. let z = (group_is t).0 (not_false _ e) in ArchivingCallsFor.has_group_reads (fine_accepted t a) z.0 z.1 z.2))
+      (λ e. let z = (group_is t).0 (not_false _ e) in ArchivingCallsFor.some_group (fine_accepted t a) z.0 z.1 z.2))
       (λ b. from_rule (ArchivingCallsFor t room) (leb (block_size * t.n) room) TooShort 0 k p
       (λ e. ArchivingCallsFor.too_short (fine_accepted t a) ((no_group_is t).0 (not_true _ (unless_fine _ HasGroup 0 b))) (omega (arith, fails _ (le-leb (block_size * t.n) room) e)))))
 
   archiving_given : {k p : ℕ} → ArchivingCallsFor t room k p → Refuses (archiving_fault t room) k p
   unfolding archiving_fault
   archiving_given (ArchivingCallsFor.own x) = by_first (table_fault t) _ _ _ (given t x)
-  archiving_given (ArchivingCallsFor.has_group_reads a k h l) = rw (accepted_fine t a) (by_first grouped _ 20 0 (is_rule (not (has_group t.groups)) HasGroup 0 (ap not ((group_is t).1 (k, h, l)))))
+  archiving_given (ArchivingCallsFor.some_group a k h l) = rw (accepted_fine t a) (by_first grouped _ 20 0 (is_rule (not (has_group t.groups)) HasGroup 0 (ap not ((group_is t).1 (k, h, l)))))
   archiving_given (ArchivingCallsFor.too_short a z h) =
       rw (accepted_fine t a, (no_group_is t).1 z) (is_rule _ TooShort 0 (lt-leb (block_size * t.n) room h))
 
@@ -196,7 +196,7 @@ first_decides =
       listing = listing-refused;
       card = archive-refused;
       salvage = salvaged_as_called;
-      salvage_answer_told = λ s entries room k p. both (not_written_is _ (salvage_fault s entries room) k p) (salvaged_as_called.refused s entries room k p);
+      salvage_written = λ s entries room k p. both (not_written_is _ (salvage_fault s entries room) k p) (salvaged_as_called.refused s entries room k p);
       merge = λ t k p. rw (read_own t refl) (table-refused.refused t k p);
       bound = λ t i allowance k p. both (unknown_is _ (bound_fault t i allowance) k p) (bound_called t i allowance k p, bound_given t i allowance);
       wait = λ t i k p. both (not_waiting_is (has_alpha t 0) (wait_in t i) (wait_fault t i) k p) (wait_called t i k p, wait_given t i);

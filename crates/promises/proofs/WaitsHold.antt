@@ -57,11 +57,11 @@ either t e = go (dec_le 1 (alpha_at t 0))
     first = (fine_accepted t e).tasks_least
 
     go : Dec (1 ≤ alpha_at t 0) → HaveAlpha t ⊎ NoAlpha t
-    go (yes h) = inl (λ i l. (fine_accepted t e).all_or_none_reads 0 i first l h)
+    go (yes h) = inl (λ i l. (fine_accepted t e).all_or_none 0 i first l h)
     go (no h) = inr (λ i l. none i l (dec_le 1 (alpha_at t i)))
       where
         none : (i : ℕ) → i < t.n → Dec (1 ≤ alpha_at t i) → alpha_at t i ≡ 0
-        none i l (yes k) = absurd (h ((fine_accepted t e).all_or_none_reads i 0 l first k))
+        none i l (yes k) = absurd (h ((fine_accepted t e).all_or_none i 0 l first k))
         none i l (no k) = omega arith
 
 not_both : (t : Table) → 1 ≤ t.n → HaveAlpha t → NoAlpha t → ⊥
@@ -81,7 +81,7 @@ module _ (t : Table) (fine : table_fault t ≡ Fine) where
   unfolding wait_answer all_waits
   answers =
       record {
-        all_or_none_reads = either t fine;
+        all_or_none = either t fine;
         wait = λ a i h. rw (known i h, has t some a);
         no_wait = λ z i h. rw (known i h, has_none t some z);
         given = (λ g. only_with (either t fine) g, λ a. rw (fine, has t some a));

@@ -32,6 +32,6 @@ pub record Archives : Type 0 where
   -- one changed byte never goes unnoticed
   pub noticed : Noticed
   -- from a listing to the card and back: the archive of an accepted listing's table, if it has no alpha and no group, is read as that very table,
-  pub from_listing_back : (s : List ℕ) (t : Table) → read_listing s ≡ accepted t → NoAlpha t → NoGroup t → read_archive (archive_of t) ≡ accepted t
+  pub from_listing : (s : List ℕ) (t : Table) → read_listing s ≡ accepted t → NoAlpha t → NoGroup t → read_archive (archive_of t) ≡ accepted t
   -- and the listing of an accepted archive's table is read as that very table, whose archive is the same bytes
-  pub from_card_back : (a : List ℕ) (t : Table) → Bytes a → read_archive a ≡ accepted t → (read_listing (text_of t) ≡ accepted t) × (archive_of t ≡ a)
+  pub from_card : (a : List ℕ) (t : Table) → Bytes a → read_archive a ≡ accepted t → (read_listing (text_of t) ≡ accepted t) × (archive_of t ≡ a)

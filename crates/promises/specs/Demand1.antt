@@ -42,17 +42,17 @@ use Rattle.rules.proofs.first_of.Reads as first_of
 use Rattle.rules.proofs.in_range.Reads as in_range
 use Rattle.rules.proofs.pair.Reads as pair
 use Rattle.rules.proofs.times.Reads as times
-use Rattle.rules.proofs.times_in_range.Reads as times_in_range_reads
-use Rattle.rules.proofs.times_in_order.Reads as times_in_order_reads
-use Rattle.rules.proofs.all_or_none.Reads as all_or_none_reads
+use Rattle.rules.proofs.times_in_range.Reads as times_in_range
+use Rattle.rules.proofs.times_in_order.Reads as times_in_order
+use Rattle.rules.proofs.all_or_none.Reads as all_or_none
 use Rattle.rules.proofs.alpha.Reads as alpha
 use Rattle.rules.proofs.asked.Reads as asked
-use Rattle.rules.proofs.groups_in_range.Reads as groups_in_range_reads
-use Rattle.rules.proofs.has_group.Reads as has_group_reads
-use Rattle.rules.proofs.totals_fit.Reads as totals_fit_reads
-use Rattle.rules.proofs.used_in_range.Reads as used_in_range_reads
+use Rattle.rules.proofs.groups_in_range.Reads as groups_in_range
+use Rattle.rules.proofs.has_group.Reads as has_group
+use Rattle.rules.proofs.totals_fit.Reads as totals_fit
+use Rattle.rules.proofs.used_in_range.Reads as used_in_range
 use Rattle.field.proofs.ends_at.Reads as ends_at
-use Rattle.put.proofs.Put.length.Reads as put_length_reads
+use Rattle.put.proofs.Put.length.Reads as put_length
 use Rattle.put.proofs.count_len.Reads as count_len
 use Rattle.put.proofs.put_text.Reads as put_text
 use Rattle.put.proofs.time_len.Reads as time_len
@@ -65,7 +65,7 @@ use Rattle.line.proofs.line_of.Reads as line_of
 use Rattle.listing.proofs.read.Reads as read
 use Rattle.writing.proofs.write.Reads as write
 use Rattle.refusal.proofs.put_refusal.Reads as put_refusal
-use Rattle.checksum.proofs.check_of.Reads as check_of_reads
+use Rattle.checksum.proofs.check_of.Reads as check_of
 use Rattle.block.proofs.put_block.Reads as put_block
 use Rattle.block.proofs.is_good.Reads as is_good
 use Rattle.block.proofs.head_of.Reads as head_of
@@ -75,7 +75,7 @@ use Rattle.card.proofs.read.Reads as card_read
 use Rattle.salvaging.proofs.Fate.code.Reads as code
 use Rattle.salvaging.proofs.blocks_of.Reads as blocks_of_reads
 use Rattle.salvaging.proofs.salvage.Reads as salvage
-use Rattle.rounds.proofs.outcome_of.Reads as outcome_of_reads
+use Rattle.rounds.proofs.outcome_of.Reads as outcome_of
 use Rattle.shares.proofs.shares_of.Reads as shares_of
 use Rattle.merging.proofs.merge.Reads as merge
 use Rattle.analysis.specs.contracts.analyse as analyse
@@ -100,7 +100,7 @@ pub record Entries : Type 2 where
   pub card_write_answers : (κs : Lfts 1) → Answers (card_write.Learnt κs) (λ a. archiving_answer a.0 (length a.1.0.now))
   pub card_write_leaves : (κs : Lfts 1) → Leaves (λ x. x.1.0.now) (card_write.Learnt κs) (λ a. archiving a.0 a.1.0.now)
   pub code : Answers (code.Learnt tt) (λ a. code_of a.0)
-  pub blocks_of_reads : Answers (blocks_of_reads.Learnt tt) (λ a. blocks_of a.0)
+  pub blocks_of : Answers (blocks_of_reads.Learnt tt) (λ a. blocks_of a.0)
   pub salvage_answers : (κs : Lfts 3) → Answers (salvage.Learnt κs) (λ a. salvage_answer a.0.now (length a.1.0.now) (length a.1.1.0.now))
   pub salvage_lists : (κs : Lfts 3) → Leaves (λ x. x.1.0.now) (salvage.Learnt κs) (λ a. listed a.0.now a.1.0.now (length a.1.1.0.now))
   pub salvage_leaves : (κs : Lfts 3) → Leaves (λ x. x.1.1.0.now) (salvage.Learnt κs) (λ a. salvaged a.0.now (length a.1.0.now) a.1.1.0.now)
@@ -122,15 +122,15 @@ pub record Determines : Type 0 where
   pub check : Determined (check.Learnt tt)
   pub first_of : Determined (first_of.Learnt tt)
   pub in_range : Determined (in_range.Learnt tt)
-  pub times_in_range_reads : Determined (times_in_range_reads.Learnt tt)
-  pub times_in_order_reads : Determined (times_in_order_reads.Learnt tt)
+  pub times_in_range : Determined (times_in_range.Learnt tt)
+  pub times_in_order : Determined (times_in_order.Learnt tt)
   pub times : Determined (times.Learnt tt)
-  pub groups_in_range_reads : Determined (groups_in_range_reads.Learnt tt)
-  pub has_group_reads : Determined (has_group_reads.Learnt tt)
-  pub all_or_none_reads : Determined (all_or_none_reads.Learnt tt)
+  pub groups_in_range : Determined (groups_in_range.Learnt tt)
+  pub has_group : Determined (has_group.Learnt tt)
+  pub all_or_none : Determined (all_or_none.Learnt tt)
   pub alpha : Determined (alpha.Learnt tt)
-  pub used_in_range_reads : Determined (used_in_range_reads.Learnt tt)
-  pub totals_fit_reads : Determined (totals_fit_reads.Learnt tt)
+  pub used_in_range : Determined (used_in_range.Learnt tt)
+  pub totals_fit : Determined (totals_fit.Learnt tt)
   pub pair : Determined (pair.Learnt tt)
   pub asked : Determined (asked.Learnt tt)
   pub time : (κs : Lfts 1) → Determined (time.Learnt κs)
@@ -138,7 +138,7 @@ pub record Determines : Type 0 where
   pub ends_at : (κs : Lfts 1) → Determined (ends_at.Learnt κs)
   pub time_len : Determined (time_len.Learnt tt)
   pub count_len : Determined (count_len.Learnt tt)
-  pub put_length_reads : Determined (put_length_reads.Learnt tt)
+  pub put_length : Determined (put_length.Learnt tt)
   pub put_text : (κs : Lfts 2) → DeterminedWith (λ x. x.0.now) (put_text.Learnt κs)
   pub put_time : (κs : Lfts 1) → DeterminedWith (λ x. x.0.now) (put_time.Learnt κs)
   pub put_count : (κs : Lfts 1) → DeterminedWith (λ x. x.0.now) (put_count.Learnt κs)
@@ -147,7 +147,7 @@ pub record Determines : Type 0 where
   pub read : (κs : Lfts 1) → Determined (read.Learnt κs)
   pub write : (κs : Lfts 1) → DeterminedWith (λ x. x.1.0.now) (write.Learnt κs)
   pub put_refusal : (κs : Lfts 1) → DeterminedWith (λ x. x.0.now) (put_refusal.Learnt κs)
-  pub check_of_reads : (κs : Lfts 1) → Determined (check_of_reads.Learnt κs)
+  pub check_of : (κs : Lfts 1) → Determined (check_of.Learnt κs)
   pub put_block : (κs : Lfts 1) → DeterminedWith (λ x. x.0.now) (put_block.Learnt κs)
   pub is_good : (κs : Lfts 1) → Determined (is_good.Learnt κs)
   pub head_of : (κs : Lfts 1) → Determined (head_of.Learnt κs)
@@ -155,11 +155,11 @@ pub record Determines : Type 0 where
   pub card_read : (κs : Lfts 1) → Determined (card_read.Learnt κs)
   pub card_write : (κs : Lfts 1) → DeterminedWith (λ x. x.1.0.now) (card_write.Learnt κs)
   pub code : Determined (code.Learnt tt)
-  pub blocks_of_reads : Determined (blocks_of_reads.Learnt tt)
+  pub blocks_of : Determined (blocks_of_reads.Learnt tt)
   pub salvage : (κs : Lfts 3) → DeterminedWith {H = List ℕ × List ℕ} (λ x. (x.1.0.now, x.1.1.0.now)) (salvage.Learnt κs)
   pub merge : Determined (merge.Learnt tt)
   pub bound : Determined (bound.Learnt tt)
-  pub outcome_of_reads : Determined (outcome_of_reads.Learnt tt)
+  pub outcome_of : Determined (outcome_of.Learnt tt)
   pub shares_of : Determined (shares_of.Learnt tt)
   pub analyse_all : Determined (analyse_all.Learnt tt)
   pub analyse : (t : Table) (allowance : ℕ) (row : List Record) (r s : Checked) (x y : List Record)

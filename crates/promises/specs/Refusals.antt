@@ -62,7 +62,7 @@ pub data OutputCallsFor (t : Table) (needed room : ℕ) : ℕ → ℕ → Type 0
 -- the same of an archive, before whose 11 "20, writing a table that has a group as a card archive of version 1" comes: some resource has one, used or not
 pub data ArchivingCallsFor (t : Table) (room : ℕ) : ℕ → ℕ → Type 0 where
   own : {number place : ℕ} → CallsFor t number place → ArchivingCallsFor t room number place
-  has_group_reads : Accepted t → (k : ℕ) → k < max_resources → 1 ≤ group_at t k → ArchivingCallsFor t room 20 0
+  some_group : Accepted t → (k : ℕ) → k < max_resources → 1 ≤ group_at t k → ArchivingCallsFor t room 20 0
   -- "a writer whose output is shorter than 512 × n bytes gives 11 last"
   too_short : Accepted t → NoGroup t → room < block_size * t.n → ArchivingCallsFor t room 11 0
 
@@ -88,7 +88,7 @@ pub record FirstDecides : Type 0 where
   pub card : CardRefusedAsCalled
   -- a card with bad blocks: 15, 11 and 14, and then the table's own; and what becomes of each block
   pub salvage : SalvagedAsCalled
-  pub salvage_answer_told : (s : List ℕ) (entries room number place : ℕ)
+  pub salvage_written : (s : List ℕ) (entries room number place : ℕ)
       → NotWrote (salvage_answer s entries room) number place exactly_if SpoiledCallsFor s entries room number place
   -- of what the analysis reads nothing but the table's own
   pub merge : (t : Table) (number place : ℕ) → Refuses (or_table (table_fault t) (merged t)).answer number place exactly_if CallsFor t number place

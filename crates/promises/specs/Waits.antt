@@ -43,7 +43,7 @@ pub record PrintsWaits (s : List ℕ) (t : Table) (row : ℕ → Counted) (cell 
 -- what `wait` and `wait_all` answer of an accepted table
 pub record AnswersWaits (t : Table) : Type 0 where
   -- alpha is given "for all tasks or none"
-  pub all_or_none_reads : HaveAlpha t ⊎ NoAlpha t
+  pub all_or_none : HaveAlpha t ⊎ NoAlpha t
   -- the wait with the task's own alpha, or that the table has none
   pub wait : HaveAlpha t → (i : ℕ) → i < t.n → wait_answer t (level i) ≡ For (wait_of (merged_view t) (alpha_at t i) (level i))
   pub no_wait : NoAlpha t → (i : ℕ) → i < t.n → wait_answer t (level i) ≡ WithoutAlpha

@@ -101,7 +101,7 @@ fine_accepted t e =
       cpus_least = m.0;
       cpus_most = m.1;
       groups_most = (groups_range_is t).0 (unless_fine _ OutOfRange 0 g.0);
-      all_or_none_reads = s;
+      all_or_none = s;
       never_rises = (never_rises t s).0 (λ i h. (x i h).1);
       task = λ i h. (x i h).0;
     }
@@ -114,6 +114,6 @@ accepted_fine t a =
       le-leb t.n max_tasks a.tasks_most,
       within_in 1 max_cpus t.cpus a.cpus_least a.cpus_most,
       (groups_range_is t).1 a.groups_most,
-      (holds_unless _ (some_only_is t)).1 ((all_or_none_reads t).1 a.all_or_none_reads),
+      (holds_unless _ (some_only_is t)).1 ((all_or_none_reads t).1 a.all_or_none),
     )
-    (first_fine t.n (task_fault_at t) (λ i h. at_fine t i (a.task i h) ((never_rises t a.all_or_none_reads).1 a.never_rises i h)))
+    (first_fine t.n (task_fault_at t) (λ i h. at_fine t i (a.task i h) ((never_rises t a.all_or_none).1 a.never_rises i h)))

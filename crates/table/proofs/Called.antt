@@ -17,7 +17,7 @@ use Rattle.table.specs.At.{task_at, alpha_at, NoAlpha, pair_of, total_of}
 use Rattle.table.specs.Faults.{Refuses, ◌then◌, unless, first_fault}
 use Rattle.table.specs.Rules.{times_in_range, times_in_order, all_or_none, may_follow, alpha_fault, pair_in_range, totals_fit, pair_fault, pair_fault_of, pairs_fault, task_fault, alphas_to, last_alpha, task_fault_at, tasks_fault, table_fault, groups_in_range}
 use Rattle.table.specs.Accepted.{GoodTo}
-use Rattle.table.specs.Refusals.{InRange, TimesInRange, TimesIn, SomeOnly, RisesAt, TaskCallsFor, out_of_range, alpha_out_of_range, alpha_rises, bad_times, pair_out_of_range, bad_totals, GroupsInRange, CallsFor, no_task_told, too_many, bad_cpus, bad_group, alpha_missing, at_task, RefusedAsCalled}
+use Rattle.table.specs.Refusals.{InRange, TimesInRange, TimesIn, SomeOnly, RisesAt, TaskCallsFor, out_of_range, alpha_out_of_range, alpha_rises, bad_times, pair_out_of_range, bad_totals, GroupsInRange, CallsFor, no_tasks, too_many, bad_cpus, bad_group, alpha_missing, at_task, RefusedAsCalled}
 use Rattle.table.proofs.Deciding.{many_decide, is_rule, from_rule, from_two, by_first, fails, failing}
 use Rattle.table.proofs.RuleFacts.{range_is, times_range_is, times_order_is, pair_range_is, totals_fit_is}
 use Rattle.table.proofs.GroupLaws.{groups_range_is, group_above, above_out}
@@ -124,7 +124,7 @@ module _ (t : Table) where
   unfolding table_fault tasks_fault
   refused_calls k p =
       from_two (unless (leb 1 t.n) NoTask 0) _ k p
-      (from_rule (CallsFor t) (leb 1 t.n) NoTask 0 k p (λ e. no_task_told (omega (arith, fails _ (le-leb 1 t.n) e))))
+      (from_rule (CallsFor t) (leb 1 t.n) NoTask 0 k p (λ e. no_tasks (omega (arith, fails _ (le-leb 1 t.n) e))))
       (λ a. from_two (unless (leb t.n max_tasks) TooManyTasks 0) _ k p
       (from_rule (CallsFor t) (leb t.n max_tasks) TooManyTasks 0 k p (λ e. too_many (omega (arith, fails _ (le-leb t.n max_tasks) e))))
       (λ b.
@@ -143,7 +143,7 @@ module _ (t : Table) where
 
   calls_refused : (k p : ℕ) → CallsFor t k p → Refuses (table_fault t) k p
   unfolding table_fault tasks_fault
-  calls_refused _ _ (no_task_told h) = rw (lt-leb 1 t.n h) (is_rule _ NoTask 0 refl)
+  calls_refused _ _ (no_tasks h) = rw (lt-leb 1 t.n h) (is_rule _ NoTask 0 refl)
   calls_refused _ _ (too_many h) = rw (le-leb 1 t.n (omega arith), lt-leb t.n max_tasks h) (is_rule _ TooManyTasks 0 refl)
   calls_refused _ _ (bad_cpus n m) =
       rw (le-leb 1 t.n n.0, le-leb t.n max_tasks n.1, failing _ (range_is 1 max_cpus t.cpus).0 m) (is_rule _ OutOfRange 0 refl)
@@ -170,7 +170,7 @@ task_number z (pair_out_of_range j h g m n) = omega arith
 task_number z (bad_totals j h g m r n) = omega arith
 
 pub number_few : {t : Table} {k p : ℕ} → NoAlpha t → InRange 1 max_tasks t.n → CallsFor t k p → k ≤ 7
-number_few z n (no_task_told h) = absurd (omega (arith, n.0))
+number_few z n (no_tasks h) = absurd (omega (arith, n.0))
 number_few z n (too_many h) = absurd (omega (arith, n.1))
 number_few z n (bad_cpus _ m) = omega arith
 number_few z n (bad_group k _ m h l) = omega arith
@@ -178,7 +178,7 @@ number_few z n (alpha_missing _ m g s) = absurd (omega (arith, z s.with s.with_i
 number_few z n (at_task i _ m g s h before c) = task_number (z i h) c
 
 pub number_most : {t : Table} {k p : ℕ} → NoAlpha t → CallsFor t k p → k ≤ 9
-number_most z (no_task_told h) = omega arith
+number_most z (no_tasks h) = omega arith
 number_most z (too_many h) = omega arith
 number_most z (bad_cpus n m) = omega arith
 number_most z (bad_group k n m h l) = omega arith

@@ -44,7 +44,7 @@ without_fine t e =
       cpus_least = a.cpus_least;
       cpus_most = a.cpus_most;
       groups_most = a.groups_most;
-      all_or_none_reads = λ i j h k l. absurd (omega (arith, without_none t i h));
+      all_or_none = λ i j h k l. absurd (omega (arith, without_none t i h));
       never_rises = λ i h. omega (arith, without_none t (suc i) h);
       task = λ i h. rw (without_at t i) (good_without (a.task i h));
     })

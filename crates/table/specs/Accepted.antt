@@ -42,6 +42,6 @@ pub record Accepted (t : Table) : Type 0 where
   -- groups: "1 to 16", "0 for none"
   pub groups_most : (k : ℕ) → k < max_resources → group_at t k ≤ max_group
   -- alpha: "for all tasks or none; A never rises from one task to the next"
-  pub all_or_none_reads : (i j : ℕ) → i < t.n → j < t.n → 1 ≤ alpha_at t i → 1 ≤ alpha_at t j
+  pub all_or_none : (i j : ℕ) → i < t.n → j < t.n → 1 ≤ alpha_at t i → 1 ≤ alpha_at t j
   pub never_rises : (i : ℕ) → suc i < t.n → alpha_at t (suc i) ≤ alpha_at t i
   pub task : (i : ℕ) → i < t.n → GoodTask (task_at t i)

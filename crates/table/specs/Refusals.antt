@@ -96,7 +96,7 @@ GroupsInRange t = (k : ℕ) → k < max_resources → group_at t k ≤ max_group
 
 pub data CallsFor (t : Table) : ℕ → ℕ → Type 0 where
   -- "A table handed over directly is checked too: 9"
-  no_task_told : t.n < 1 → CallsFor t 9 0
+  no_tasks : t.n < 1 → CallsFor t 9 0
   -- "8"
   too_many : max_tasks < t.n → CallsFor t 8 0
   -- "m (4), each with place 0"

@@ -15,8 +15,8 @@ const SLOTS: u32 = Table::MAX_RESOURCES as u32;
 
 // The constants that the definitions read are these.
 fn sizes()
-    ensures value { KEPT ≡ max_kept }
-    ensures value_2 { SLOTS ≡ key_slots }
+    ensures kept { KEPT ≡ max_kept }
+    ensures slots { SLOTS ≡ key_slots }
 {}
 
 fn larger(a: u32, b: u32) -> u32
