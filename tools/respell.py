@@ -19,10 +19,17 @@ TOKEN = r"[^\s(){};,.\[\]@\"\\`]+"
 # Names that would fall together with another: of a lemma and the definition that it is about, the lemma gets `_lem`; a constructor gets `by_`.
 LEMMAS = "can-hold count-text count-to good-at group-on is-above just-before no_lines one_more others_below pair-for part-load part-of past_after shares-demand task-for task-text time-of time-text waits-for word-text"
 READS = "all-or-none blocks-of check-of groups-in-range has-group outcome-of put-length times-in-order times-in-range totals-fit used-in-range version-byte version-for"
-OTHERWISE = {"eachPair": "EachPair", "eachTask": "EachTask", "miss-listing": "miss_listing_holds", "shown-listing": "shown_listing_holds", "from-card": "from_card_back", "from-listing": "from_listing_back", "no-task": "no_task_told", "salvage-answer": "salvage_answer_told"}
+OTHERWISE = {"eachPair": "EachPair", "eachTask": "EachTask", "miss-listing": "miss_listing_holds", "shown-listing": "shown_listing_holds", "no-task": "no_tasks", "salvage-answer": "salvage_written"}
 OTHERWISE |= {n: n.replace("-", "_") + "_lem" for n in LEMMAS.split()}
 OTHERWISE |= {n: n.replace("-", "_") + "_reads" for n in READS.split()}
 OTHERWISE |= {n: "by_" + n.replace("-", "_") for n in "alpha-line cpus-line group-line task-line use-line".split()}
+# And by place, last of all: `_reads` where nothing else there has the name.
+PLAIN = (
+    (r"/Demand1(Holds)?\.antt$", r"\b((?!blocks_of)\w+|blocks_of(?=_reads [:=]))_reads\b", r"\1"),
+    (r"/promises/\w+/Refusals(Hold)?\.antt$", r"\bhas_group_reads\b", "some_group"),
+    (r"/(table/specs/Accepted|promises/specs/Waits)\.antt$", r"\ball_or_none_reads\b", "all_or_none"),
+    (r"/proofs/(?!AlphaLaws)\w+\.antt$", r"(\.|(?m:^) +)all_or_none_reads\b(?! as)", r"\1all_or_none"),
+)
 
 
 def snake(name):
@@ -119,7 +126,21 @@ def main(argv):
         turn_all(root, names(root), argv)
     if "--list" not in argv:
         turn_all(root, inner_names(root), argv)
+        plain(root)
     return 0
+
+
+def plain(root):
+    for p in files(root, ".antt"):
+        with open(p, encoding="utf-8") as f:
+            old = f.read()
+        out = old
+        for where, what, new in PLAIN:
+            if re.search(where, p):
+                out = re.sub(what, new, out)
+        if out != old:
+            with open(p, "w", encoding="utf-8") as f:
+                f.write(out)
 
 
 def turn_all(root, new, argv):
