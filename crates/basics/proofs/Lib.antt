@@ -3,6 +3,8 @@
 --   SumLaws          sum_none, sum_more, sum_le, sum_rises, sum_part, sum_bound, sum_eq, sum_one, sum_add, sum_some, sum_wider, sum_found, sum_first, sum_scale
 --   MaxLaws          max_more, max_bound, max_le, max_rises, max_wider, max_part
 --   AllLaws          all_none, all_more, all_at, all_fails, all_hold, all_zero
+--   EachLaws         each_is, some_is, count_is
+--   MadeLaws         made_from, row_made
 --   FirstIndexLaws   first_none, first_more, First, first_is, first_by, first_here, first_eq
 --   CountLaws        count_on, count_off, count_none, count_some, count_one, count_found, count_most, count_but, count_missed, sum_ones, sum_swap, count_number, count_alone
 --   OnceLaws         both, and_both, pick_is, is_pick, some_count, first_below; Once, first_once, count_once, once_count
@@ -18,6 +20,8 @@ pub mod ChoiceLaws
 pub mod SumLaws
 pub mod MaxLaws
 pub mod AllLaws
+pub mod EachLaws
+pub mod MadeLaws
 pub mod FirstIndexLaws
 pub mod CountLaws
 pub mod OnceLaws

@@ -15,7 +15,7 @@ use Rattle.basics.proofs.SumLaws.{sum_rises}
 use Rattle.table.specs.declared.Task.{Task}
 use Rattle.table.specs.declared.Table.{Table}
 use Rattle.table.specs.declared.Fault.TheVariants.{OutOfRange, BadTimes, TooManyTasks, NoTask, AlphaMissing, AlphaRises}
-use Rattle.table.specs.declared.Checked.TheVariants.{Fine}
+use Rattle.std.specs.Prelude.{Ok}
 use Rattle.table.specs.Limits.{max_cpus, max_tasks, max_resources, max_alpha}
 use Rattle.table.specs.At.{task_at, pair_of, total_of}
 use Rattle.table.specs.Faults.{unless}
@@ -32,29 +32,29 @@ use Rattle.table.proofs.RuleLaws.{unless_fine, good_times, times_range, times_or
 
 -- of a task that nothing is said against up to its first n resources, and the other way round
 pub good_to : (place : ℕ) (x : Task) (n : ℕ) → GoodTimes x.period x.run x.deadline → x.alpha ≤ max_alpha
-    → ((k : ℕ) → k < n → pair_fault_of place x k ≡ Fine) → GoodTo x n
+    → ((k : ℕ) → k < n → pair_fault_of place x k ≡ Ok tt) → GoodTo x n
 unfolding sum_to
 good_to place x n g a each = record { times = g; alpha_most = a; pair = λ k h. (pair_good place _ _ _ (each k h)).0; totals = go n each }
   where
-    go : (n : ℕ) → ((k : ℕ) → k < n → pair_fault_of place x k ≡ Fine) → sum_to n (total_of x) ≤ x.run
+    go : (n : ℕ) → ((k : ℕ) → k < n → pair_fault_of place x k ≡ Ok tt) → sum_to n (total_of x) ≤ x.run
     go zero each = omega arith
     go (suc k) each = rw add-one at (pair_good place (pair_of x k) (sum_to (k + 1) (total_of x)) x.run (each k (le_refl (suc k)))).1
 
-pub to_fine : (place : ℕ) (x : Task) (n k : ℕ) → GoodTo x n → k < n → pair_fault_of place x k ≡ Fine
+pub to_fine : (place : ℕ) (x : Task) (n k : ℕ) → GoodTo x n → k < n → pair_fault_of place x k ≡ Ok tt
 to_fine place x n k g h = pair_fine place (pair_of x k) _ _ (g.pair k h) (le_trans (sum_rises (k + 1) n (total_of x) (omega arith)) g.totals)
 
-pub alpha_good : (place last A : ℕ) → alpha_fault place last A ≡ Fine → (A ≤ max_alpha) × (may_follow last A ≡ true)
+pub alpha_good : (place last A : ℕ) → alpha_fault place last A ≡ Ok tt → (A ≤ max_alpha) × (may_follow last A ≡ true)
 unfolding alpha_fault
 alpha_good place last A e =
     let f = then_fine (unless (leb A max_alpha) OutOfRange place) _ e in
     (leb-true _ _ (unless_fine _ OutOfRange place f.0), unless_fine _ AlphaRises place f.1)
 
-pub alpha_fine : (place last A : ℕ) → A ≤ max_alpha → may_follow last A ≡ true → alpha_fault place last A ≡ Fine
+pub alpha_fine : (place last A : ℕ) → A ≤ max_alpha → may_follow last A ≡ true → alpha_fault place last A ≡ Ok tt
 unfolding alpha_fault
 alpha_fine place last A h e = rw (le-leb A max_alpha h, e)
 
 -- a task after alpha `last`, and the other way round
-pub task_good : (place last : ℕ) (x : Task) → task_fault place last x ≡ Fine → GoodTask x × (may_follow last x.alpha ≡ true)
+pub task_good : (place last : ℕ) (x : Task) → task_fault place last x ≡ Ok tt → GoodTask x × (may_follow last x.alpha ≡ true)
 unfolding task_fault pairs_fault
 task_good place last x e =
     let f = then_fine (unless (times_in_range x.period x.run x.deadline) OutOfRange place) _ e in
@@ -65,7 +65,7 @@ task_good place last x e =
     let g = alpha_good place last x.alpha a.0 in
     (good_to place x max_resources (good_times r s) g.0 (each_fine max_resources (pair_fault_of place x) o.1), g.1)
 
-pub task_fine : (place last : ℕ) (x : Task) → GoodTask x → may_follow last x.alpha ≡ true → task_fault place last x ≡ Fine
+pub task_fine : (place last : ℕ) (x : Task) → GoodTask x → may_follow last x.alpha ≡ true → task_fault place last x ≡ Ok tt
 unfolding task_fault pairs_fault
 task_fine place last x g e =
     rw (
@@ -76,15 +76,15 @@ task_fine place last x g e =
     (first_fine max_resources (pair_fault_of place x) (λ k h. to_fine place x max_resources k g h))
 
 -- the task at a slot
-pub good_at_lem : (t : Table) (i : ℕ) → task_fault_at t i ≡ Fine → GoodTask (task_at t i) × (RisesAt t i → ⊥)
+pub good_at_lem : (t : Table) (i : ℕ) → task_fault_at t i ≡ Ok tt → GoodTask (task_at t i) × (RisesAt t i → ⊥)
 good_at_lem t i e = let g = task_good _ (last_alpha t i) (task_at t i) e in (g.0, (holds_unless _ (rises_is t i)).0 g.1)
 
-pub at_fine : (t : Table) (i : ℕ) → GoodTask (task_at t i) → (RisesAt t i → ⊥) → task_fault_at t i ≡ Fine
+pub at_fine : (t : Table) (i : ℕ) → GoodTask (task_at t i) → (RisesAt t i → ⊥) → task_fault_at t i ≡ Ok tt
 at_fine t i g n = task_fine _ (last_alpha t i) (task_at t i) g ((holds_unless _ (rises_is t i)).1 n)
 
 -- ---- the table
 
-pub fine_accepted : (t : Table) → table_fault t ≡ Fine → Accepted t
+pub fine_accepted : (t : Table) → table_fault t ≡ Ok tt → Accepted t
 unfolding table_fault tasks_fault
 fine_accepted t e =
     let a = then_fine (unless (leb 1 t.n) NoTask 0) _ e in
@@ -106,7 +106,7 @@ fine_accepted t e =
       task = λ i h. (x i h).0;
     }
 
-pub accepted_fine : (t : Table) → Accepted t → table_fault t ≡ Fine
+pub accepted_fine : (t : Table) → Accepted t → table_fault t ≡ Ok tt
 unfolding table_fault tasks_fault
 accepted_fine t a =
     rw (

@@ -11,7 +11,7 @@ use Rattle.table.specs.declared.Pair.{Pair}
 use Rattle.table.specs.declared.Task.{Task}
 use Rattle.table.specs.declared.Table.{Table}
 use Rattle.table.specs.declared.Fault.TheVariants.{OutOfRange, BadTimes, BadTotals, TooManyTasks, NoTask, AlphaMissing, AlphaRises}
-use Rattle.table.specs.declared.Checked.{Checked}
+use Rattle.table.specs.Faults.{Checked}
 use Rattle.table.specs.Limits.{max_cpus, max_tasks, max_resources, max_alpha}
 use Rattle.table.specs.At.{task_at, alpha_at, NoAlpha, pair_of, total_of}
 use Rattle.table.specs.Faults.{Refuses, ◌then◌, unless, first_fault}

@@ -12,8 +12,8 @@ use Rattle.basics.specs.Exactly.{◌exactly_if◌}
 use Rattle.table.specs.declared.Fault.{Fault}
 use Rattle.table.specs.declared.Fault.TheVariants.{TooLong, BadForm, BadField, OutOfRange, BadTimes, NotRising, BadTotals, TooManyTasks, NoTask, UnknownTask, TooShort, BadLength, BadBlock, Mismatch, BadCard, NoRounds, AlphaMissing, AlphaRises, GroupNotRising, HasGroup}
 use Rattle.table.specs.declared.Refusal.{Refusal}
-use Rattle.table.specs.declared.Checked.{Checked}
-use Rattle.table.specs.declared.Checked.TheVariants.{Fine, Refused}
+use Rattle.table.specs.Faults.{Checked}
+use Rattle.std.specs.Prelude.{Ok, Err}
 use Rattle.table.specs.Faults.{number_of, Refuses, ◌then◌, unless, first_fault}
 use Rattle.table.proofs.FirstLaws.{first_at, first_fine, each_fine}
 
@@ -55,31 +55,31 @@ one_number a b e = sym (number_back a) ∙ ap fault_of e ∙ number_back b
 -- ---- two checks, and n of them
 
 -- a check that is fine refuses nothing
-not_refused : {A : Type 0} {c : Checked} {k p : ℕ} → c ≡ Fine → Refuses c k p → A
+not_refused : {A : Type 0} {c : Checked} {k p : ℕ} → c ≡ Ok tt → Refuses c k p → A
 not_refused e (r, f, t) = let z : ◌≡◌ {A = ℕ} 0 1 = cc in absurd (omega arith)
 
-pub two_decide : (a b : Checked) (k p : ℕ) → Refuses (a then b) k p exactly_if (Refuses a k p ⊎ ((a ≡ Fine) × Refuses b k p))
-two_decide Fine b k p = (λ x. inr (refl, x), back)
+pub two_decide : (a b : Checked) (k p : ℕ) → Refuses (a then b) k p exactly_if (Refuses a k p ⊎ ((a ≡ Ok tt) × Refuses b k p))
+two_decide (Ok _) b k p = (λ x. inr (refl, x), back)
   where
-    back : Refuses Fine k p ⊎ ((Fine ≡ Fine) × Refuses b k p) → Refuses b k p
+    back : Refuses {A = Unit {0}} (Ok tt) k p ⊎ ((◌≡◌ {A = Checked} (Ok tt) (Ok tt)) × Refuses b k p) → Refuses b k p
     back (inl x) = not_refused refl x
     back (inr x) = x.1
-two_decide (Refused s) b k p = (λ x. inl x, back)
+two_decide (Err s) b k p = (λ x. inl x, back)
   where
-    back : Refuses (Refused s) k p ⊎ ((Refused s ≡ Fine) × Refuses b k p) → Refuses (Refused s) k p
+    back : Refuses {A = Unit {0}} (Err s) k p ⊎ ((◌≡◌ {A = Checked} (Err s) (Ok tt)) × Refuses b k p) → Refuses {A = Unit {0}} (Err s) k p
     back (inl x) = x
     back (inr x) = let z : ◌≡◌ {A = ℕ} 0 1 = cc in absurd (omega arith)
 
 -- the thing at i is refused, and those before it are not
 abbrev First : ℕ → (ℕ → Checked) → ℕ → ℕ → Type 0
-First n f k p = (i : ℕ) × (i < n) × Refuses (f i) k p × ((j : ℕ) → j < i → f j ≡ Fine)
+First n f k p = (i : ℕ) × (i < n) × Refuses (f i) k p × ((j : ℕ) → j < i → f j ≡ Ok tt)
 
 first_of : (n : ℕ) (f : ℕ → Checked) (k p : ℕ) → Refuses (first_fault n f) k p → First n f k p
 unfolding first_fault
 first_of zero f k p x = not_refused refl x
 first_of (suc n) f k p x = go ((two_decide (first_fault n f) (f n) k p).0 x) (first_of n f k p)
   where
-    go : Refuses (first_fault n f) k p ⊎ ((first_fault n f ≡ Fine) × Refuses (f n) k p) → (Refuses (first_fault n f) k p → First n f k p)
+    go : Refuses (first_fault n f) k p ⊎ ((first_fault n f ≡ Ok tt) × Refuses (f n) k p) → (Refuses (first_fault n f) k p → First n f k p)
         → First (suc n) f k p
     go (inl y) ih = let z = ih y in (z.0, omega (arith, z.1), z.2, z.3)
     go (inr y) ih = (n, le_refl (suc n), y.1, each_fine n f y.0)
@@ -92,8 +92,8 @@ many_decide n f k p =
 
 -- the refusal that a check gives, if it gives one
 given : Checked → Refusal
-given Fine = record { fault = TooLong; place = 0 }
-given (Refused r) = r
+given (Ok _) = record { fault = TooLong; place = 0 }
+given (Err r) = r
 
 -- a rule refuses where its test fails, with its own number and place
 pub rule_is : (test : Bool) (f : Fault) (q k p : ℕ) → Refuses (unless test f q) k p → (test ≡ false) × (number_of f ≡ k) × (q ≡ p)
@@ -110,10 +110,10 @@ is_rule test f q e = rw e (_, refl, record { number = refl; place = refl })
 pub from_rule : (C : ℕ → ℕ → Type 0) (test : Bool) (f : Fault) (q k p : ℕ) → (test ≡ false → C (number_of f) q) → Refuses (unless test f q) k p → C k p
 from_rule C test f q k p h x = let r = rule_is test f q k p x in rw (← r.1, ← r.2) (h r.0)
 
-pub from_two : {A : Type 0} (a b : Checked) (k p : ℕ) → (Refuses a k p → A) → (a ≡ Fine → Refuses b k p → A) → Refuses (a then b) k p → A
+pub from_two : {A : Type 0} (a b : Checked) (k p : ℕ) → (Refuses a k p → A) → (a ≡ Ok tt → Refuses b k p → A) → Refuses (a then b) k p → A
 from_two {A} a b k p f g x = go ((two_decide a b k p).0 x)
   where
-    go : Refuses a k p ⊎ ((a ≡ Fine) × Refuses b k p) → A
+    go : Refuses a k p ⊎ ((a ≡ Ok tt) × Refuses b k p) → A
     go (inl y) = f y
     go (inr y) = g y.0 y.1
 

@@ -7,8 +7,8 @@ use native.Mathlib.Omega.{arith}
 use native.Mathlib.Numerals.{add-one}
 use native.Mathlib.Nat.{add-zero, add-suc, le_refl, not-suc-le-zero, eq-or-lt_of_le}
 use Rattle.table.specs.declared.Refusal.{Refusal}
-use Rattle.table.specs.declared.Checked.{Checked}
-use Rattle.table.specs.declared.Checked.TheVariants.{Fine, Refused}
+use Rattle.table.specs.Faults.{Checked}
+use Rattle.std.specs.Prelude.{Ok, Err}
 use Rattle.table.specs.Faults.{◌then◌, first_fault}
 
 -- one index more
@@ -17,28 +17,28 @@ unfolding first_fault
 first_more k f = rw add-one
 
 -- a fault that was found stays the first
-stays_on : (m k : ℕ) (f : ℕ → Checked) (r : Refusal) → first_fault k f ≡ Refused r → first_fault (k + m) f ≡ Refused r
+stays_on : (m k : ℕ) (f : ℕ → Checked) (r : Refusal) → first_fault k f ≡ Err r → first_fault (k + m) f ≡ Err r
 unfolding first_fault
 stays_on zero k f r e = rw add-zero e
 stays_on (suc m) k f r e = rw (add-suc, stays_on m k f r e)
 
 -- the fault at k is the first of n, where there is none below it
-pub first_at : (n k : ℕ) (f : ℕ → Checked) (r : Refusal) → k < n → first_fault k f ≡ Fine → f k ≡ Refused r → first_fault n f ≡ Refused r
+pub first_at : (n k : ℕ) (f : ℕ → Checked) (r : Refusal) → k < n → first_fault k f ≡ Ok tt → f k ≡ Err r → first_fault n f ≡ Err r
 first_at n k f r h e g =
     let s : n ≡ k + 1 + (n - (k + 1)) = omega arith in
     ap (λ (m : ℕ). first_fault m f) s ∙ stays_on (n - (k + 1)) (k + 1) f r (rw (first_more, e) g)
 
 -- nothing is found where there is nothing, and only there
-pub first_fine : (n : ℕ) (f : ℕ → Checked) → ((k : ℕ) → k < n → f k ≡ Fine) → first_fault n f ≡ Fine
+pub first_fine : (n : ℕ) (f : ℕ → Checked) → ((k : ℕ) → k < n → f k ≡ Ok tt) → first_fault n f ≡ Ok tt
 unfolding first_fault
 first_fine zero f each = refl
 first_fine (suc n) f each = rw (first_fine n f (λ k l. each k (omega arith))) (each n (le_refl (suc n)))
 
-pub then_fine : (a b : Checked) → (a then b) ≡ Fine → (a ≡ Fine) × (b ≡ Fine)
-then_fine Fine b e = (refl, e)
-then_fine (Refused r) b e = (cc, cc)
+pub then_fine : (a b : Checked) → (a then b) ≡ Ok tt → (a ≡ Ok tt) × (b ≡ Ok tt)
+then_fine (Ok _) b e = (refl, e)
+then_fine (Err r) b e = (cc, cc)
 
-pub each_fine : (n : ℕ) (f : ℕ → Checked) → first_fault n f ≡ Fine → (k : ℕ) → k < n → f k ≡ Fine
+pub each_fine : (n : ℕ) (f : ℕ → Checked) → first_fault n f ≡ Ok tt → (k : ℕ) → k < n → f k ≡ Ok tt
 unfolding first_fault
 each_fine zero f e k h = absurd (not-suc-le-zero h)
 each_fine (suc n) f e k h =

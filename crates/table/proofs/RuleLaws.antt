@@ -8,7 +8,7 @@ use native.Mathlib.Omega.{arith}
 use Rattle.table.specs.declared.Pair.{Pair}
 use Rattle.table.specs.declared.Fault.{Fault}
 use Rattle.table.specs.declared.Fault.TheVariants.{OutOfRange, BadTimes, BadTotals}
-use Rattle.table.specs.declared.Checked.TheVariants.{Fine}
+use Rattle.std.specs.Prelude.{Ok}
 use Rattle.table.specs.Limits.{max_time, max_count}
 use Rattle.table.specs.Empty.{unused_pair}
 use Rattle.table.specs.Faults.{unless}
@@ -18,7 +18,7 @@ use Rattle.table.specs.Refusals.{TimesInRange, TimesInOrder, UsedInRange, PairIn
 use Rattle.table.proofs.FirstLaws.{then_fine}
 use Rattle.table.proofs.RuleFacts.{times_range_is, times_order_is, used_range_is, pair_range_is, totals_fit_is}
 
-pub unless_fine : (b : Bool) (fault : Fault) (place : ℕ) → unless b fault place ≡ Fine → b ≡ true
+pub unless_fine : (b : Bool) (fault : Fault) (place : ℕ) → unless b fault place ≡ Ok tt → b ≡ true
 unless_fine true fault place e = refl
 unless_fine false fault place e = cc
 
@@ -34,13 +34,13 @@ times_range g = record { period = (omega arith, omega arith); run = (omega arith
 pub times_order : {T C D : ℕ} → GoodTimes T C D → TimesInOrder T C D
 times_order g = record { run_deadline = g.run_deadline; deadline_period = g.deadline_period }
 
-pub times_good : (place T C D : ℕ) → times_fault place T C D ≡ Fine → GoodTimes T C D
+pub times_good : (place T C D : ℕ) → times_fault place T C D ≡ Ok tt → GoodTimes T C D
 unfolding times_fault
 times_good place T C D e =
     let f = then_fine (unless (times_in_range T C D) OutOfRange place) _ e in
     good_times ((times_range_is T C D).0 (unless_fine _ OutOfRange place f.0)) ((times_order_is T C D).0 (unless_fine _ BadTimes place f.1))
 
-pub times_fine : (place T C D : ℕ) → GoodTimes T C D → times_fault place T C D ≡ Fine
+pub times_fine : (place T C D : ℕ) → GoodTimes T C D → times_fault place T C D ≡ Ok tt
 unfolding times_fault
 times_fine place T C D g = rw ((times_range_is T C D).1 (times_range g), (times_order_is T C D).1 (times_order g))
 
@@ -77,7 +77,7 @@ used_range p g = (used_range_is p).1 (used_facts p g)
 pub used_totals : (p : Pair) (sum C : ℕ) → GoodPair p → sum ≤ C → totals_fit p sum C ≡ true
 used_totals p sum C g h = (totals_fit_is p sum C).1 (totals_facts p g h)
 
-pub pair_good : (place : ℕ) (p : Pair) (sum C : ℕ) → pair_fault place p sum C ≡ Fine
+pub pair_good : (place : ℕ) (p : Pair) (sum C : ℕ) → pair_fault place p sum C ≡ Ok tt
     → ((p ≡ unused_pair) ⊎ GoodPair p) × (sum ≤ C)
 unfolding pair_fault
 pair_good place p sum C e =
@@ -89,7 +89,7 @@ pair_facts : (p : Pair) {sum C : ℕ} → (p ≡ unused_pair) ⊎ GoodPair p →
 pair_facts p (inl e) h = (inl e, rw e (record { longest_total = omega arith; total_product = omega arith; sum_run = h }))
 pair_facts p (inr g) h = (inr (used_facts p g), totals_facts p g h)
 
-pub pair_fine : (place : ℕ) (p : Pair) (sum C : ℕ) → (p ≡ unused_pair) ⊎ GoodPair p → sum ≤ C → pair_fault place p sum C ≡ Fine
+pub pair_fine : (place : ℕ) (p : Pair) (sum C : ℕ) → (p ≡ unused_pair) ⊎ GoodPair p → sum ≤ C → pair_fault place p sum C ≡ Ok tt
 unfolding pair_fault
 pair_fine place p sum C g h = let f = pair_facts p g h in rw ((pair_range_is p).1 f.0, (totals_fit_is p sum C).1 f.1)
 

@@ -13,7 +13,7 @@ use Rattle.basics.specs.Over.{row_to}
 use Rattle.basics.proofs.RowLaws.{row_eq}
 use Rattle.table.specs.declared.Task.{Task}
 use Rattle.table.specs.declared.Table.{Table}
-use Rattle.table.specs.declared.Checked.TheVariants.{Fine}
+use Rattle.std.specs.Prelude.{Ok}
 use Rattle.table.specs.Limits.{max_tasks, max_resources}
 use Rattle.table.specs.Empty.{empty_task}
 use Rattle.table.specs.At.{no_task, with_alpha, task_at, group_at, NoAlpha, SameTask, Same}
@@ -33,7 +33,7 @@ without_none t i h = ap (λ (x : Task). x.alpha) (without_at t i)
 good_without : {x : Task} → GoodTask x → GoodTask (with_alpha 0 x)
 good_without g = record { times = g.times; alpha_most = omega arith; pair = g.pair; totals = g.totals }
 
-pub without_fine : (t : Table) → table_fault t ≡ Fine → table_fault (without_alpha t) ≡ Fine
+pub without_fine : (t : Table) → table_fault t ≡ Ok tt → table_fault (without_alpha t) ≡ Ok tt
 unfolding without_alpha
 without_fine t e =
     let a = fine_accepted t e in

@@ -4,8 +4,8 @@ use Rattle.table.specs.declared.Pair.{Pair}
 use Rattle.table.specs.declared.Task.{Task}
 use Rattle.table.specs.declared.Table.{Table}
 use Rattle.table.specs.declared.Fault.TheVariants.{OutOfRange, BadTimes, BadTotals, TooManyTasks, NoTask, AlphaMissing, AlphaRises}
-use Rattle.table.specs.declared.Checked.{Checked}
-use Rattle.table.specs.declared.Checked.TheVariants.{Fine}
+use Rattle.table.specs.Faults.{Checked}
+use Rattle.std.specs.Prelude.{Ok}
 use Rattle.table.specs.Empty.{unused_pair}
 use Rattle.table.specs.At.{a_pair, a_task, with_alpha, a_table, with_groups}
 use Rattle.table.specs.Faults.{at}
@@ -53,10 +53,10 @@ largest = a_task 4_294_967_295 4_294_967_295 4_294_967_295 (replicate 16 (a_pair
 unfoldable pub cases : List Case
 cases =
     -- accepted: case A, the smallest table, each limit itself, 16 totals that just fit
-    case 2 3 (good ∷ a_task 20_000 4_000 15_000 [] ∷ a_task 30_000 6_000 30_000 (a_pair 2 750 1_500 ∷ []) ∷ []) Fine
-    ∷ case 1 1 (a_task 1 1 1 (a_pair 1 1 1 ∷ []) ∷ []) Fine
-    ∷ case 64 32 (replicate 32 (a_task 10_000_000 10_000_000 10_000_000 (sixteenth (a_pair 1_000 10_000_000 10_000_000)))) Fine
-    ∷ one (a_task 10_000_000 10_000_000 10_000_000 (replicate 16 (a_pair 1 625_000 625_000))) Fine
+    case 2 3 (good ∷ a_task 20_000 4_000 15_000 [] ∷ a_task 30_000 6_000 30_000 (a_pair 2 750 1_500 ∷ []) ∷ []) (Ok tt)
+    ∷ case 1 1 (a_task 1 1 1 (a_pair 1 1 1 ∷ []) ∷ []) (Ok tt)
+    ∷ case 64 32 (replicate 32 (a_task 10_000_000 10_000_000 10_000_000 (sixteenth (a_pair 1_000 10_000_000 10_000_000)))) (Ok tt)
+    ∷ one (a_task 10_000_000 10_000_000 10_000_000 (replicate 16 (a_pair 1 625_000 625_000))) (Ok tt)
     -- 9, which comes before 4
     ∷ case 2 0 (good ∷ []) (at NoTask 0)
     ∷ case 65 0 [] (at NoTask 0)
@@ -90,20 +90,20 @@ cases =
     -- 7: c above CT, CT above N × c, a sum above C
     ∷ one (holding (a_pair 3 100 99 ∷ [])) (at BadTotals 1)
     ∷ one (holding (a_pair 3 100 301 ∷ [])) (at BadTotals 1)
-    ∷ one (holding (a_pair 3 100 300 ∷ [])) Fine
+    ∷ one (holding (a_pair 3 100 300 ∷ [])) (Ok tt)
     ∷ one (holding (a_pair 1 2_501 2_501 ∷ [])) (at BadTotals 1)
-    ∷ one (holding (a_pair 1 2_500 2_500 ∷ [])) Fine
+    ∷ one (holding (a_pair 1 2_500 2_500 ∷ [])) (Ok tt)
     ∷ case 2 2 (good ∷ holding (ends (a_pair 1 2_499 2_499) (a_pair 1 2 2)) ∷ []) (at BadTotals 2)
-    ∷ case 2 2 (good ∷ holding (ends (a_pair 1 2_499 2_499) (a_pair 1 1 1)) ∷ []) Fine
+    ∷ case 2 2 (good ∷ holding (ends (a_pair 1 2_499 2_499) (a_pair 1 1 1)) ∷ []) (Ok tt)
     -- 5 comes before the pairs; of one pair 4 before 7; of two pairs the first; of two tasks the first
     ∷ one (a_task 10 9 8 (a_pair 0 1 0 ∷ [])) (at BadTimes 1)
     ∷ one (holding (a_pair 1_001 9 1 ∷ [])) (at OutOfRange 1)
     ∷ one (holding (a_pair 3 100 99 ∷ a_pair 0 1 0 ∷ [])) (at BadTotals 1)
     ∷ case 2 2 (holding (sixteenth (a_pair 3 100 99)) ∷ a_task 0 1 1 [] ∷ []) (at BadTotals 1)
     -- slots past the nth are not looked at
-    ∷ case 2 2 (good ∷ good ∷ largest ∷ []) Fine
+    ∷ case 2 2 (good ∷ good ∷ largest ∷ []) (Ok tt)
     -- alpha for all, never rising, up to 64
-    ∷ case 2 3 (tuned 64 ∷ tuned 64 ∷ tuned 1 ∷ []) Fine
+    ∷ case 2 3 (tuned 64 ∷ tuned 64 ∷ tuned 1 ∷ []) (Ok tt)
     -- 17, whichever has it, and whatever it is; after 9, 8 and m, and before the tasks
     ∷ case 2 2 (good ∷ tuned 1 ∷ []) (at AlphaMissing 0)
     ∷ case 2 3 (tuned 2 ∷ good ∷ tuned 3 ∷ []) (at AlphaMissing 0)
@@ -112,8 +112,8 @@ cases =
     ∷ case 2 33 (tuned 1 ∷ good ∷ []) (at TooManyTasks 0)
     ∷ case 0 2 (tuned 1 ∷ good ∷ []) (at OutOfRange 0)
     -- slots past the nth are not looked at for it
-    ∷ case 2 2 (tuned 1 ∷ tuned 1 ∷ good ∷ []) Fine
-    ∷ case 2 1 (good ∷ tuned 1 ∷ []) Fine
+    ∷ case 2 2 (tuned 1 ∷ tuned 1 ∷ good ∷ []) (Ok tt)
+    ∷ case 2 1 (good ∷ tuned 1 ∷ []) (Ok tt)
     -- alpha above 64 is 4 after T, C and D, and before 18 and 5; 18 before 5; the place is the task's number
     ∷ one (tuned 65) (at OutOfRange 1)
     ∷ case 2 2 (tuned 64 ∷ with_alpha 65 (a_task 10 9 8 []) ∷ []) (at OutOfRange 2)
@@ -123,8 +123,8 @@ cases =
     -- 18 is against the task before, not the first
     ∷ case 2 3 (tuned 9 ∷ tuned 2 ∷ tuned 3 ∷ []) (at AlphaRises 3)
     -- groups up to 16, of resources in use and not
-    ∷ grouped (replicate 16 16) (case 2 2 (good ∷ good ∷ []) Fine)
-    ∷ grouped (1 ∷ 1 ∷ 0 ∷ 3 ∷ []) (one good Fine)
+    ∷ grouped (replicate 16 16) (case 2 2 (good ∷ good ∷ []) (Ok tt))
+    ∷ grouped (1 ∷ 1 ∷ 0 ∷ 3 ∷ []) (one good (Ok tt))
     -- above 16: 4 with place 0, whichever resource has it, after 9, 8 and m, and before 17 and the tasks
     ∷ grouped (17 ∷ []) (one good (at OutOfRange 0))
     ∷ grouped (replicate 15 0 ++ (4_294_967_295 ∷ [])) (one good (at OutOfRange 0))
@@ -133,7 +133,7 @@ cases =
     ∷ grouped (17 ∷ []) (case 2 2 (tuned 1 ∷ good ∷ []) (at OutOfRange 0))
     ∷ grouped (17 ∷ []) (one largest (at OutOfRange 0))
     -- 4 and 7 are of the pairs as typed: N of 1,000 each and CT that sum to C in one group
-    ∷ grouped (replicate 16 1) (one (a_task 10_000_000 10_000_000 10_000_000 (replicate 16 (a_pair 1_000 1_000 625_000))) Fine)
+    ∷ grouped (replicate 16 1) (one (a_task 10_000_000 10_000_000 10_000_000 (replicate 16 (a_pair 1_000 1_000 625_000))) (Ok tt))
     ∷ grouped (1 ∷ 1 ∷ []) (one (holding (a_pair 1 100 100 ∷ a_pair 3 50 151 ∷ [])) (at BadTotals 1))
     ∷ []
 

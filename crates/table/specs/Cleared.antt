@@ -4,7 +4,7 @@ use Rattle.basics.specs.Choice.{pick}
 use Rattle.basics.specs.Over.{row_to}
 use Rattle.table.specs.declared.Task.{Task}
 use Rattle.table.specs.declared.Table.{Table}
-use Rattle.table.specs.declared.Checked.TheVariants.{Fine}
+use Rattle.std.specs.Prelude.{Ok}
 use Rattle.table.specs.Limits.{max_tasks, max_resources}
 use Rattle.table.specs.Empty.{empty_task}
 use Rattle.table.specs.At.{task_at, group_at, pair_of, Same}
@@ -24,4 +24,4 @@ cleared t =
 
 -- which is the same table
 abbrev pub ClearedSame : Type 0
-ClearedSame = (t : Table) → table_fault t ≡ Fine → Same t (cleared t)
+ClearedSame = (t : Table) → table_fault t ≡ Ok tt → Same t (cleared t)

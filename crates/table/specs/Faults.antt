@@ -1,10 +1,8 @@
 -- Document 01, "Refusals by number", and requests 2/12, 5/12, 6/12, 8/12 and 9/12 of document 02: the number of each refusal, and how the first fault decides.
-use Rattle.std.specs.Prelude.{ℕ, zero, suc, ◌≡◌, Bool, true, false}
+use Rattle.std.specs.Prelude.{ℕ, zero, suc, ◌≡◌, Bool, true, false, Result, Ok, Err}
 use Rattle.table.specs.declared.Fault.{Fault}
 use Rattle.table.specs.declared.Fault.TheVariants.{TooLong, BadForm, BadField, OutOfRange, BadTimes, NotRising, BadTotals, TooManyTasks, NoTask, UnknownTask, TooShort, BadLength, BadBlock, Mismatch, BadCard, NoRounds, AlphaMissing, AlphaRises, GroupNotRising, HasGroup}
 use Rattle.table.specs.declared.Refusal.{Refusal}
-use Rattle.table.specs.declared.Checked.{Checked}
-use Rattle.table.specs.declared.Checked.TheVariants.{Fine, Refused}
 
 abbrev pub number_of : Fault → ℕ
 -- listing longer than 65,536 bytes
@@ -48,30 +46,34 @@ number_of GroupNotRising = 19
 -- a table that has a group, written as an archive of version 1
 number_of HasGroup = 20
 
+-- what a check answers: that it is fine, or the refusal; in code `Result<(), Refusal>`
+abbrev pub Checked : Type 0
+Checked = Result Unit Refusal
+
 -- a refusal told by its number and its place
 pub record Told (r : Refusal) (k p : ℕ) : Type 0 where
   pub number : number_of r.fault ≡ k
   pub place : r.place ≡ p
 
--- a check that refuses with the number k, at a place
-abbrev pub Refuses : Checked → ℕ → ℕ → Type 0
-Refuses c k p = (r : Refusal) × (c ≡ Refused r) × Told r k p
+-- an answer, be it of a check or of what gives something where nothing is refused, that refuses with the number k, at a place
+abbrev pub Refuses : {A : Type 0} → Result A Refusal → ℕ → ℕ → Type 0
+Refuses c k p = (r : Refusal) × (c ≡ Err r) × Told r k p
 
 infixr 20 ◌then◌
 -- the first fault decides
 abbrev pub ◌then◌ : Checked → Checked → Checked
-Fine then b = b
-Refused r then b = Refused r
+Ok _ then b = b
+Err r then b = Err r
 
 abbrev pub at : Fault → ℕ → Checked
-at fault place = Refused (record { fault = fault; place = place })
+at fault place = Err (record { fault = fault; place = place })
 
 -- the fault at the place, unless the test holds
 abbrev pub unless : Bool → Fault → ℕ → Checked
-unless true fault place = Fine
+unless true fault place = Ok tt
 unless false fault place = at fault place
 
 -- the first fault of f 0, f 1, .., f (n − 1)
 unfoldable pub first_fault : ℕ → (ℕ → Checked) → Checked
-first_fault zero f = Fine
+first_fault zero f = Ok tt
 first_fault (suc n) f = first_fault n f then f n

@@ -6,7 +6,7 @@ use Rattle.basics.specs.Exactly.{◌exactly_if◌}
 use Rattle.table.specs.declared.Pair.{Pair}
 use Rattle.table.specs.declared.Task.{Task}
 use Rattle.table.specs.declared.Table.{Table}
-use Rattle.table.specs.declared.Checked.TheVariants.{Fine}
+use Rattle.std.specs.Prelude.{Ok}
 use Rattle.table.specs.Limits.{max_cpus, max_tasks, max_resources, max_group, max_time, max_count, max_alpha}
 use Rattle.table.specs.Empty.{unused_pair}
 use Rattle.table.specs.At.{task_at, alpha_at, group_at, pair_at, total_of}
@@ -114,4 +114,4 @@ pub data CallsFor (t : Table) : ℕ → ℕ → Type 0 where
 pub record RefusedAsCalled : Type 0 where
   pub refused : (t : Table) (number place : ℕ) → Refuses (table_fault t) number place exactly_if CallsFor t number place
   -- and a table is accepted exactly if it holds the paper's bounds
-  pub accepted : (t : Table) → (table_fault t ≡ Fine) exactly_if Accepted t
+  pub accepted : (t : Table) → (table_fault t ≡ Ok tt) exactly_if Accepted t

@@ -7,7 +7,7 @@ use Rattle.table.specs.declared.Level.{Level}
 use Rattle.table.specs.declared.Pair.{Pair}
 use Rattle.table.specs.declared.Task.{Task}
 use Rattle.table.specs.declared.Table.{Table}
-use Rattle.table.specs.declared.Checked.{Checked}
+use Rattle.table.specs.Faults.{Checked}
 use Rattle.table.specs.declared.Fault.TheVariants.{OutOfRange, BadTimes, BadTotals, TooManyTasks, NoTask, UnknownTask, AlphaMissing, AlphaRises}
 use Rattle.table.specs.Limits.{max_cpus, max_tasks, max_resources, max_group, max_time, max_count, max_alpha}
 use Rattle.table.specs.At.{task_at, alpha_at, pair_of, total_of}

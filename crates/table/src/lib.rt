@@ -3,7 +3,7 @@
 
 ghost use Rattle.std.specs.Prelude.{◌≡◌};
 ghost use Rattle.table.specs.Limits.{max_cpus, max_tasks, max_resources, max_group, max_time, max_count, max_alpha, max_listing};
-ghost use Rattle.table.specs.Empty.{unused_pair, empty_task, empty_table};
+ghost use Rattle.table.specs.Empty.{empty_table};
 ghost use Rattle.table.specs.Faults.{number_of};
 
 // A priority: a task's number, 1 the highest, or a resource's ceiling.
@@ -11,18 +11,18 @@ ghost use Rattle.table.specs.Faults.{number_of};
 pub struct Level(pub u32);
 
 // A resource's number, from 1.
-#[derive(Clone, Copy)]
+#[derive(Clone, Copy, Default)]
 pub struct Resource(pub u32);
 
-// What one task asks of one resource; all three are 0 where it does not use it.
-#[derive(Clone, Copy)]
+// What one task asks of one resource; all three are 0, the default, where it does not use it.
+#[derive(Clone, Copy, Default)]
 pub struct Pair {
     pub requests: u32, // N: most requests by one job
     pub longest: u32, // c: longest single request
     pub total: u32, // CT: total of one job
 }
 
-#[derive(Clone, Copy)]
+#[derive(Clone, Copy, Default)]
 pub struct Task {
     pub period: u32, // T: shortest time between releases
     pub run: u32, // C: run time
@@ -31,6 +31,8 @@ pub struct Task {
     pub pairs: [Pair; Table::MAX_RESOURCES], // resource k at k - 1
 }
 
+// A table as it is handed over, whatever its numbers are: the check's contract speaks of every n, alpha and group, so that none of them has a type that rules some out. The
+// memory is fixed.
 #[derive(Clone, Copy)]
 pub struct Table {
     pub cpus: u32, // m
@@ -39,29 +41,29 @@ pub struct Table {
     pub tasks: [Task; Table::MAX_TASKS], // task i at i - 1
 }
 
-// The refusals, in the order of their numbers.
+// The refusals, each with the number that the paper, or a change request, gives it.
 #[derive(Clone, Copy)]
 pub enum Fault {
-    TooLong,
-    BadForm,
-    BadField,
-    OutOfRange,
-    BadTimes,
-    NotRising,
-    BadTotals,
-    TooManyTasks,
-    NoTask,
-    UnknownTask,
-    TooShort,
-    BadLength,
-    BadBlock,
-    Mismatch,
-    BadCard,
-    NoRounds,
-    AlphaMissing,
-    AlphaRises,
-    GroupNotRising,
-    HasGroup,
+    TooLong = 1,
+    BadForm = 2,
+    BadField = 3,
+    OutOfRange = 4,
+    BadTimes = 5,
+    NotRising = 6,
+    BadTotals = 7,
+    TooManyTasks = 8,
+    NoTask = 9,
+    UnknownTask = 10,
+    TooShort = 11,
+    BadLength = 12,
+    BadBlock = 13,
+    Mismatch = 14,
+    BadCard = 15,
+    NoRounds = 16,
+    AlphaMissing = 17,
+    AlphaRises = 18,
+    GroupNotRising = 19,
+    HasGroup = 20,
 }
 
 // A fault, and where it was found: a line, a task, or a block of an archive.
@@ -71,80 +73,12 @@ pub struct Refusal {
     pub place: u32,
 }
 
-#[derive(Clone, Copy)]
-pub enum Checked {
-    Fine,
-    Refused(Refusal),
-}
-
-// What a reader of a table answers: the table that was read; or the refusal, with the empty table.
-#[derive(Clone, Copy)]
-pub struct Reading {
-    pub answer: Checked,
-    pub table: Table,
-}
-
-// What a writer of a table answers: how many bytes were written, or why none were.
-#[derive(Clone, Copy)]
-pub enum Written {
-    Wrote(usize),
-    NotWritten(Refusal),
-}
-
 impl Fault {
-    // The number that the paper, or a change request, gives this refusal.
+    // The number of this refusal.
     pub fn number(self) -> u32
         ensures { result ≡ number_of self }
     {
-        match self {
-            Fault::TooLong => 1,
-            Fault::BadForm => 2,
-            Fault::BadField => 3,
-            Fault::OutOfRange => 4,
-            Fault::BadTimes => 5,
-            Fault::NotRising => 6,
-            Fault::BadTotals => 7,
-            Fault::TooManyTasks => 8,
-            Fault::NoTask => 9,
-            Fault::UnknownTask => 10,
-            Fault::TooShort => 11,
-            Fault::BadLength => 12,
-            Fault::BadBlock => 13,
-            Fault::Mismatch => 14,
-            Fault::BadCard => 15,
-            Fault::NoRounds => 16,
-            Fault::AlphaMissing => 17,
-            Fault::AlphaRises => 18,
-            Fault::GroupNotRising => 19,
-            Fault::HasGroup => 20,
-        }
-    }
-}
-
-impl Pair {
-    fn unused() -> Self
-        ensures { result ≡ unused_pair }
-    {
-        Pair {
-            requests: 0,
-            longest: 0,
-            total: 0,
-        }
-    }
-}
-
-impl Task {
-    fn empty() -> Self
-        ensures { result ≡ empty_task }
-    {
-        let pairs = [Pair::unused(); Table::MAX_RESOURCES];
-        Task {
-            period: 0,
-            run: 0,
-            deadline: 0,
-            alpha: 0,
-            pairs,
-        }
+        self as u32
     }
 }
 
@@ -165,11 +99,11 @@ impl Table {
 
     pub const MAX_LISTING: usize = 65_536; // bytes
 
-    // No task, no group, and zeros in every slot.
+    // No task, no group, and zeros in every slot. No Default: a table that is refused would be an odd one.
     pub fn empty() -> Self
         ensures { result ≡ empty_table }
     {
-        let tasks = [Task::empty(); Table::MAX_TASKS];
+        let tasks = [Task::default(); Table::MAX_TASKS];
         Table {
             cpus: 0,
             n: 0,

@@ -1,21 +1,15 @@
-use mathlib.Core.Path.{◌≡◌, refl}
-use native.Mathlib.Omega.{arith}
-use Rattle.basics.specs.Choice.{only}
-use Rattle.basics.specs.Over.{sum_to}
-use Rattle.basics.proofs.SumLaws.{sum_more}
-use Rattle.table.specs.Rules.{has_alpha}
+use Rattle.std.proofs.Common.{◌∙◌, ltb, take, rules}
+use Rattle.std.proofs.lemmas.Iterator.{YieldsList-from_slice}
+use Rattle.std.proofs.lemmas.Iterator.Consumers.{YieldsList-from_filter, count_from_yields_List}
+use borrow.Author.Tests.{tests}
+use Rattle.basics.proofs.EachLaws.{count_is}
+use Rattle.table.specs.declared.Task.{Task}
+use Rattle.table.specs.At.{no_task}
 use Rattle.checking.proofs.alphas_in.Goals as goal
-
-pub loop-i-init : goal.loop-i-init
-unfolding sum_to
-loop-i-init c = (omega arith, omega arith, refl)
-
-pub loop-i-preserved : goal.loop-i-preserved
-loop-i-preserved c =
-    (omega arith, omega arith, omega (arith, sum_more c.loop-i.i (λ k. only (has_alpha c.args.t k) 1)))
 
 pub returns : goal.returns
 returns c =
-    let l = c.loop-i in
-    let e : l.i ≡ c.args.t.n = omega arith in
-    cc
+    let given = λ (x : Task). ltb 0 x.alpha in
+    let ts = c.args.t.tasks in
+    count_from_yields_List c.filter.result _ c.count.ensures.ran (YieldsList-from_filter _ given (YieldsList-from_slice (take c.args.t.n ts) cc) c.filter.ensures.closure (λ x r q k. search (rules, tests)))
+    ∙ count_is c.args.t.n no_task given ts (search rules)

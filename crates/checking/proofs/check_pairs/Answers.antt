@@ -1,6 +1,4 @@
-use borrow.Author.Rules.{rules}
-use mathlib.Core.Path.{◌≡◌, refl, sym, ◌∙◌}
-use native.Mathlib.Omega.{arith}
+use Rattle.std.proofs.Common.{◌≡◌, refl, sym, ◌∙◌, arith, rules}
 use Rattle.basics.specs.Over.{sum_to}
 use Rattle.basics.proofs.SumLaws.{sum_more}
 use Rattle.table.specs.Faults.{first_fault}
@@ -9,30 +7,33 @@ use Rattle.table.proofs.FirstLaws.{first_more, first_at}
 use Rattle.checking.proofs.check_pairs.Goals as goal
 use Rattle.checking.proofs.check_pairs.Goals.{After-pair}
 
-pub loop-k-init : goal.loop-k-init
+pub loop-p-init : goal.loop-p-init
 unfolding sum_to first_fault
-loop-k-init c = (search rules, search rules, refl, refl)
+loop-p-init c = record { small = omega arith; summed = refl; fine = refl }
 
--- what the call found is the fault of pair k, whose sum is the code's
-at_pair : (c : goal.After-pair)
-    → let a = c.args in
-    pair_fault_of a.place a.x c.loop-k.k ≡ c.pair.result
-at_pair c = rw (sum_more, ← c.loop-k.invariant.2) (sym c.pair.ensures)
+-- what the call found is the fault of this pair, whose sum is the code's
+said : (c : goal.After-pair) → pair_fault_of c.args.place c.args.x c.loop-p.p-index ≡ c.pair.result
+said c = rw (sum_more, ← c.loop-p.invariant.summed) (search (rules, sym c.pair.ensures))
 
-pub returns-in-Refused : goal.returns-in-Refused
+pub loop-p-preserved : goal.loop-p-preserved
+loop-p-preserved c =
+    let l = c.loop-p in
+    record {
+      small = omega arith;
+      summed = rw (sum_more, ← l.invariant.summed) (search rules);
+      fine = rw (first_more, l.invariant.fine) (said (goal.at.loop-p-preserved c).After-pair ∙ c.in_ok-pair.was);
+    }
+
+pub returns-in_err-pair : goal.returns-in_err-pair
 unfolding pairs_fault
-returns-in-Refused c =
-    let l = c.loop-k in
-    sym (first_at 16 l.k _ _ (omega arith) l.invariant.3 (at_pair (goal.at.returns-in-Refused c).After-pair ∙ c.in-Refused.is))
-
-pub loop-k-preserved : goal.loop-k-preserved
-loop-k-preserved c =
-    let l = c.loop-k in
-    (omega arith, omega arith, rw (sum_more, ← l.invariant.2), rw (first_more, l.invariant.3) (at_pair (goal.at.loop-k-preserved c).After-pair ∙ c.in_default.is))
+returns-in_err-pair c =
+    let l = c.loop-p in
+    let e : c.from_residual.result ≡ c.pair.result = search rules in
+    e ∙ c.in_err-pair.was ∙ sym (first_at 16 l.p-index _ _ (omega arith) l.invariant.fine (said (goal.at.returns-in_err-pair c).After-pair ∙ c.in_err-pair.was))
 
 pub returns : goal.returns
 unfolding pairs_fault
 returns c =
-    let l = c.loop-k in
-    let e : l.k ≡ 16 = omega arith in
+    let l = c.loop-p in
+    let e : l.p-index ≡ 16 = omega arith in
     cc

@@ -1,8 +1,4 @@
-use borrow.Author.Rules.{rules}
-use mathlib.Core.Path.{◌≡◌, refl, sym, ◌∙◌}
-use native.Mathlib.Omega.{arith}
-use Prim.Native.Nat.{ℕ, ◌+◌, ◌-◌}
-use native.Mathlib.Numerals.{add-one}
+use Rattle.std.proofs.Common.{◌≡◌, ℕ, ◌+◌, refl, sym, ◌∙◌, arith, rules, add-one}
 use Rattle.table.specs.declared.Table.{Table}
 use Rattle.table.specs.At.{alpha_at}
 use Rattle.table.specs.Faults.{first_fault}
@@ -16,33 +12,29 @@ last_more : (t : Table) (i : ℕ) → last_alpha t (i + 1) ≡ next_alpha (last_
 unfolding last_alpha
 last_more t i = rw add-one
 
-pub loop-number-init : goal.loop-number-init
+pub loop-i-init : goal.loop-i-init
 unfolding first_fault last_alpha
-loop-number-init c = (search rules, search rules, refl, refl)
+loop-i-init c = (refl, refl)
 
--- what the call found is the fault of the task with this number
-at-number : (c : goal.After-check_task)
-    → task_fault_at c.args.t (c.loop-number.number - 1) ≡ c.check_task.result
-at-number c =
-    let l = c.loop-number in
-    let e : l.number - 1 + 1 ≡ l.number = omega arith in
-    rw (e, ← l.invariant.2) (sym c.check_task.ensures)
+-- what the call found is the fault of this task
+said : (c : goal.After-check_task) → task_fault_at c.args.t c.loop-i.i ≡ c.check_task.result
+said c = rw (← c.loop-i.invariant.0) (sym c.check_task.ensures)
 
-pub returns-in-Refused : goal.returns-in-Refused
+pub returns-in_err-check_task : goal.returns-in_err-check_task
 unfolding tasks_fault
-returns-in-Refused c =
-    let l = c.loop-number in
-    sym (first_at _ (l.number - 1) _ _ (omega arith) l.invariant.3 (at-number (goal.at.returns-in-Refused c).After-check_task ∙ c.in-Refused.is))
+returns-in_err-check_task c =
+    let l = c.loop-i in
+    let e : c.from_residual.result ≡ c.check_task.result = search rules in
+    e ∙ c.in_err-check_task.was ∙ sym (first_at _ l.i _ _ c.loop-i-test.true l.invariant.1 (said (goal.at.returns-in_err-check_task c).After-check_task ∙ c.in_err-check_task.was))
 
-pub loop-number-preserved : goal.loop-number-preserved
-loop-number-preserved c =
-    let l = c.loop-number in
-    let e : l.number + 1 - 1 ≡ l.number - 1 + 1 = omega arith in
-    (omega arith, omega arith, rw (e, last_more, ← l.invariant.2) c.later-last.ensures, rw (e, first_more, l.invariant.3) (at-number (goal.at.loop-number-preserved c).After-check_task ∙ c.in_default.is))
+pub loop-i-preserved : goal.loop-i-preserved
+loop-i-preserved c =
+    let l = c.loop-i in
+    (rw (last_more, ← l.invariant.0) c.later-last.ensures, rw (first_more, l.invariant.1) (said (goal.at.loop-i-preserved c).After-check_task ∙ c.in_ok-check_task.was))
 
 pub returns : goal.returns
 unfolding tasks_fault
 returns c =
-    let l = c.loop-number in
-    let e : l.number - 1 ≡ c.args.t.n = omega arith in
+    let l = c.loop-i in
+    let e : l.i ≡ c.args.t.n = omega arith in
     cc
