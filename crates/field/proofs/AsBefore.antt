@@ -8,12 +8,12 @@ use native.Mathlib.Omega.{arith}
 use lib.ListN.{length, drop, length-append}
 use lib.Seq.{drop-drop}
 use borrow.Author.Tests.{ne_eqb}
+use Rattle.std.specs.Prelude.{Option, Some, None}
 use Rattle.basics.specs.Choice.{pick, within}
 use Rattle.basics.proofs.ChoiceLaws.{pick_when, within_in}
 use Rattle.field.specs.declared.Field.{Field}
-use Rattle.field.specs.declared.Field.TheVariants.{Value, Bad}
 use Rattle.field.specs.declared.Rounding.{Rounding}
-use Rattle.field.specs.Number.{digits, number, first, ends, point, nanos, rounded, fraction, time_field}
+use Rattle.field.specs.Number.{reads_as, digits, number, first, ends, point, nanos, rounded, fraction, time_field}
 use Rattle.field.specs.Spelling.{Digits, none, one}
 use Rattle.field.specs.ThreeDecimals.{short_micros, short_fraction, short_time, decimals}
 use Rattle.field.proofs.RoundingLaws.{rounded_whole}
@@ -67,18 +67,18 @@ time_before way s h =
     let r = drop n s in
     let v = number 0 (digits s) in
     rw (short_rounded way v [] (omega arith))
-    (ap (λ (x : Field). pick (within 1 5 n) (pick (ends r) (Value (short_micros v []) n) x) Bad)
-    (pick_when Bad (point r) (λ p. fraction_before way v (n + 1) (drop (n + 1) s) (few_decimals s p h))))
+    (ap (λ (x : Option Field). pick (within 1 5 n) (pick (ends r) (reads_as (short_micros v []) n) x) None)
+    (pick_when None (point r) (λ p. fraction_before way v (n + 1) (drop (n + 1) s) (few_decimals s p h))))
 
 -- ---- seven decimals and more
 
-pub time_seven : (way : Rounding) (s : List ℕ) → 6 < decimals (first s) → time_field way s ≡ Bad
+pub time_seven : (way : Rounding) (s : List ℕ) → 6 < decimals (first s) → time_field way s ≡ None
 time_seven way s h = go (time_field way s) refl
   where
     few : {v n : ℕ} → TimeRead way s v n → decimals (first s) ≤ 6
     few (read_whole a z) = omega (arith, ap decimals (a.all ∙ sym (append-nil (digits s))) ∙ decimals_past (digits s) [] (digits_are s))
     few (read_pointed {f} b a r z) = omega (arith, r.few, ap decimals a ∙ decimals_past (digits s) (46 ∷ digits f) (digits_are s))
 
-    go : (x : Field) → time_field way s ≡ x → time_field way s ≡ Bad
-    go (Value v n) e = absurd (omega (arith, few (time_read way s v n e)))
-    go Bad e = e
+    go : (x : Option Field) → time_field way s ≡ x → time_field way s ≡ None
+    go (Some f) e = absurd (omega (arith, few (time_read way s f.value f.width e)))
+    go None e = e

@@ -9,12 +9,12 @@ use lib.ListN.{length, drop}
 use lib.Seq.{drop-drop, drop-append_seam}
 use lib.Dec.{eqb}
 use borrow.Author.Tests.{eqb-true, ne_eqb}
+use Rattle.std.specs.Prelude.{Option, None}
 use Rattle.basics.specs.Choice.{pick, within}
 use Rattle.basics.proofs.ChoiceLaws.{pick_when, within_true}
 use Rattle.field.specs.declared.Field.{Field}
-use Rattle.field.specs.declared.Field.TheVariants.{Value, Bad}
 use Rattle.field.specs.declared.Rounding.{Rounding}
-use Rattle.field.specs.Number.{is_digit, digits, number, apart, first, ends, point, nanos, rounded, fraction, time_field, count_field}
+use Rattle.field.specs.Number.{reads_as, is_digit, digits, number, apart, first, ends, point, nanos, rounded, fraction, time_field, count_field}
 
 -- a digit parts no fields
 pub digit_in : (b : ℕ) → is_digit b ≡ true → apart b ≡ false
@@ -93,5 +93,5 @@ time_first way s =
     let r = drop n s in
     let v = number 0 (digits s) in
     rw (first_digits s, first_rest s, ends_first (drop (length (digits s)) s), point_first (drop (length (digits s)) s))
-    (ap (λ (x : Field). pick (within 1 5 n) (pick (ends r) (Value (rounded way (nanos v [])) n) x) Bad)
-    (pick_when Bad (point r) (λ p. ap (fraction way v (n + 1)) (past_point s n (first_rest s) p) ∙ fraction_first way v (n + 1) (drop (n + 1) s))))
+    (ap (λ (x : Option Field). pick (within 1 5 n) (pick (ends r) (reads_as (rounded way (nanos v [])) n) x) None)
+    (pick_when None (point r) (λ p. ap (fraction way v (n + 1)) (past_point s n (first_rest s) p) ∙ fraction_first way v (n + 1) (drop (n + 1) s))))

@@ -10,11 +10,10 @@ use lib.ListN.{length, length-append}
 use lib.Seq.{drop-length, drop-append_seam, drop-append-add}
 use Rattle.basics.specs.Choice.{pick}
 use Rattle.basics.proofs.ChoiceLaws.{within_in, within_true}
-use Rattle.field.specs.declared.Field.TheVariants.{Value}
 use Rattle.field.specs.declared.Rounding.{Rounding}
-use Rattle.field.specs.Number.{is_digit, digits, number, first, ends, nanos, rounded, fraction, time_field, count_field}
+use Rattle.field.specs.Number.{reads_as, is_digit, digits, number, first, ends, nanos, rounded, fraction, time_field, count_field}
 use Rattle.field.specs.Spelling.{Digits, none, one, value_of, DigitsTo, Time, Spells, whole, pointed, StatesTime, StatesCount}
-use Rattle.field.proofs.DigitLaws.{padded_number}
+use Rattle.field.proofs.DigitLaws.{alike, padded_number}
 use Rattle.field.proofs.RoundingLaws.{rounded_to, to_rounded}
 use Rattle.field.proofs.FirstField.{digit_in, first_none, count_first, time_first}
 use Rattle.field.proofs.ReadAs.{AllDigits, count_read, TimeRead, read_whole, read_pointed, time_read}
@@ -55,18 +54,17 @@ digits_to k s a = record { digits = digits_are s; some = a.some; few = a.few }
 
 -- ---- what reads as v states v
 
-pub count_states : (s : List ℕ) (v n : ℕ) → count_field s ≡ Value v n → StatesCount (first s) v
+pub count_states : (s : List ℕ) (v n : ℕ) → count_field s ≡ reads_as v n → StatesCount (first s) v
 count_states s v n e =
     let r = count_read s v n e in
-    let q : v ≡ number 0 (digits s) = cc in
-    rw r.0.all (record { digits = digits_to 4 s r.0; value = q ∙ value_number (digits s) })
+    rw r.0.all (record { digits = digits_to 4 s r.0; value = sym (alike r.1).0 ∙ value_number (digits s) })
 
 -- w states a time that is held as v
 pub record StatesHeld (way : Rounding) (w : List ℕ) (v : ℕ) : Type 0 where
   pub typed : ℕ
   pub states : StatesTime way w (record { typed = typed; held = v })
 
-pub time_states : (way : Rounding) (s : List ℕ) (v n : ℕ) → time_field way s ≡ Value v n → StatesHeld way (first s) v
+pub time_states : (way : Rounding) (s : List ℕ) (v n : ℕ) → time_field way s ≡ reads_as v n → StatesHeld way (first s) v
 time_states way s v n e = go (time_read way s v n e)
   where
     -- the nanoseconds that are read
@@ -76,28 +74,28 @@ time_states way s v n e = go (time_read way s v n e)
     go : TimeRead way s v n → StatesHeld way (first s) v
     go (read_whole a z) =
         let q : nanos (number 0 (digits s)) [] ≡ value_of (digits s) * 1_000_000 = omega (arith, value_number (digits s)) in
-        held (nanos (number 0 (digits s)) []) (cc) (rw a.all (whole (digits_to 5 s a) q))
+        held (nanos (number 0 (digits s)) []) (sym (alike z).0) (rw a.all (whole (digits_to 5 s a) q))
     go (read_pointed {f} b a r z) =
         let q : nanos (number 0 (digits s)) (digits f) ≡ value_of (digits s) * 1_000_000 + value_of (digits f) * 10 ^ (6 - length (digits f)) =
         cc (padded_number (number 0 (digits s)) (digits f) r.few, value_number (digits s), value_number (digits f)) in
-        held (nanos (number 0 (digits s)) (digits f)) (cc) (rw a (pointed (record { digits = digits_are s; some = b.0; few = b.1 }) (digits_to 6 f r) q))
+        held (nanos (number 0 (digits s)) (digits f)) (sym (alike z).0) (rw a (pointed (record { digits = digits_are s; some = b.0; few = b.1 }) (digits_to 6 f r) q))
 
 -- ---- what states v reads as v
 
-count_of : (w : List ℕ) (v : ℕ) → StatesCount w v → count_field w ≡ Value v (length w)
+count_of : (w : List ℕ) (v : ℕ) → StatesCount w v → count_field w ≡ reads_as v (length w)
 unfolding count_field
 count_of w v c =
     let d = c.digits in
     rw (digits_whole w d.digits, drop-length w, within_in 1 4 (length w) d.some d.few, value_number w, c.value)
 
-pub states_count : (s : List ℕ) (v : ℕ) → StatesCount (first s) v → count_field s ≡ Value v (length (first s))
+pub states_count : (s : List ℕ) (v : ℕ) → StatesCount (first s) v → count_field s ≡ reads_as v (length (first s))
 states_count s v c = sym (count_first s) ∙ count_of (first s) v c
 
-fraction_of : (way : Rounding) (u at : ℕ) (f : List ℕ) → DigitsTo 6 f → fraction way u at f ≡ Value (rounded way (nanos u f)) (at + length f)
+fraction_of : (way : Rounding) (u at : ℕ) (f : List ℕ) → DigitsTo 6 f → fraction way u at f ≡ reads_as (rounded way (nanos u f)) (at + length f)
 unfolding fraction
 fraction_of way u at f d = rw (digits_whole f d.digits, drop-length f, within_in 1 6 (length f) d.some d.few)
 
-time_of_lem : (way : Rounding) (w : List ℕ) (ns : ℕ) → Spells w ns → time_field way w ≡ Value (rounded way ns) (length w)
+time_of_lem : (way : Rounding) (w : List ℕ) (ns : ℕ) → Spells w ns → time_field way w ≡ reads_as (rounded way ns) (length w)
 unfolding time_field
 time_of_lem way w ns (whole d e) =
     let q : nanos (value_of w) [] ≡ ns = padded_number (value_of w) [] (omega arith) ∙ omega arith in
@@ -105,11 +103,11 @@ time_of_lem way w ns (whole d e) =
 time_of_lem way _ ns (pointed {w} {f} d g e) =
     rw (digits_all w (46 ∷ f) d.digits refl, drop-append_seam w (46 ∷ f), drop-append-add w (46 ∷ f) 1, within_in 1 5 (length w) d.some d.few, fraction_of way (number 0 w) (length w + 1) f g)
     (rw (padded_number (number 0 w) f g.few, value_number w, value_number f, ← e, length-append w (46 ∷ f))
-    (ap (Value (rounded way ns)) (omega arith)))
+    (ap (reads_as (rounded way ns)) (omega arith)))
 
-pub states_time : (way : Rounding) (s : List ℕ) (x : Time) → StatesTime way (first s) x → time_field way s ≡ Value x.held (length (first s))
+pub states_time : (way : Rounding) (s : List ℕ) (x : Time) → StatesTime way (first s) x → time_field way s ≡ reads_as x.held (length (first s))
 states_time way s x t =
-    sym (time_first way s) ∙ time_of_lem way (first s) x.typed t.spells ∙ ap (λ (v : ℕ). Value v (length (first s))) (to_rounded way x.typed x.held t.rounds)
+    sym (time_first way s) ∙ time_of_lem way (first s) x.typed t.spells ∙ ap (λ (v : ℕ). reads_as v (length (first s))) (to_rounded way x.typed x.held t.rounds)
 
 -- ---- a field that is joined to a text
 

@@ -1,15 +1,16 @@
 // The number fields of a listing: read at the start of a part of the line that runs on past them.
 #![tactic(auto)]
 
-ghost use Rattle.std.specs.Prelude.{◌≡◌, drop, ◌-◌, ◌*◌, ◌^◌, ◌≤◌, ◌<◌};
+ghost use Rattle.std.specs.Prelude.{◌≡◌, length, drop, ◌+◌, ◌-◌, ◌*◌, ◌^◌, ◌≤◌, ◌<◌, IfSome};
+ghost use Rattle.std.specs.Bool.{OnTrue};
 ghost use Rattle.field.specs.Number.{ends, point, rounded, fraction, time_field, count_field};
 ghost use Rattle.field.specs.Runs.{run_of};
 
-// A field's value and its width in bytes, or that it is badly formed.
+// A number that a text starts with, and its width in bytes.
 #[derive(Clone, Copy)]
-pub enum Field {
-    Value(u32, usize),
-    Bad,
+pub struct Field {
+    pub value: u32,
+    pub width: usize,
 }
 
 // Which way a time is rounded to the microsecond.
@@ -19,70 +20,39 @@ pub enum Rounding {
     Up,
 }
 
-// A run of at most so many digits: how many, and their number; or that there are more.
-#[derive(Clone, Copy)]
-enum Run {
-    Of(usize, u32),
-    Long,
-}
-
-// The digits that s starts with.
-fn leading(s: &[u8], most: usize) -> Run
+// The digits that s starts with, unless they are more than so many.
+fn leading(s: &[u8], most: usize) -> Option<Field>
     requires { most ≤ 9 }
-    ensures { result ≡ run_of most s.now }
+    ensures run { result ≡ run_of most s.now }
+    ensures small { IfSome result (λ f. (f.width ≤ most) × (f.width ≤ length s.now) × (f.value < 10 ^ f.width)) }
 {
-    let mut n: usize = 0;
-    let mut v: u32 = 0;
-    while n < s.len() {
-        let b = s[n];
-        if b < 48 {
-            return Run::Of(n, v);
+    let mut value: u32 = 0;
+    for (width, b) in s.iter().enumerate() {
+        if !b.is_ascii_digit() {
+            return Some(Field { value, width });
         }
-        if 57 < b {
-            return Run::Of(n, v);
+        if width == most {
+            return None;
         }
-        if n == most {
-            return Run::Long;
-        }
-        v = v * 10 + (b - 48) as u32;
-        n += 1;
+        value = value * 10 + u32::from(*b - b'0');
     }
-    Run::Of(n, v)
-}
-
-// The digits from a place on.
-fn leading_at(s: &[u8], at: usize, most: usize) -> Run
-    requires { most ≤ 9 }
-    ensures { result ≡ run_of most (drop at s.now) }
-{
-    if s.len() <= at {
-        return Run::Of(0, 0);
-    }
-    leading(&s[at..], most)
+    let width = s.len();
+    Some(Field { value, width })
 }
 
 // Whether a field ends at a place: at a space, an LF or the end.
 pub fn ends_at(s: &[u8], at: usize) -> bool
     ensures { result ≡ ends (drop at s.now) }
 {
-    if s.len() <= at {
-        return true;
-    }
-    let b = s[at];
-    if b == 32 {
-        return true;
-    }
-    b == 10
+    matches!(s.get(at), None | Some(b' ' | b'\n'))
 }
 
 // Whether a point stands at a place.
 fn point_at(s: &[u8], at: usize) -> bool
-    ensures { result ≡ point (drop at s.now) }
+    ensures point { result ≡ point (drop at s.now) }
+    ensures inside { OnTrue result (at < length s.now) }
 {
-    if s.len() <= at {
-        return false;
-    }
-    s[at] == 46
+    matches!(s.get(at), Some(b'.'))
 }
 
 // The number x of so many digits after the point, in millionths: padded on the right.
@@ -90,13 +60,7 @@ fn millionths(digits: usize, x: u32) -> u32
     requires { (digits ≤ 6) × (x < 10 ^ digits) }
     ensures { (result ≡ x * 10 ^ (6 - digits)) × (result < 1000000) }
 {
-    let mut r = x;
-    let mut n = digits;
-    while n < 6 {
-        r = r * 10;
-        n += 1;
-    }
-    r
+    x * 10_u32.pow((6 - digits) as u32)
 }
 
 // The nanoseconds past a whole millisecond, in microseconds.
@@ -110,55 +74,49 @@ fn micros(way: Rounding, ns: u32) -> u32
     }
 }
 
-// What follows the point, at a place, of a time whose whole part is v.
-fn fraction_at(s: &[u8], at: usize, v: u32, way: Rounding) -> Field
+// What follows the point of a time whose whole part is v; it begins at a place of the field.
+fn fraction(s: &[u8], at: usize, v: u32, way: Rounding) -> Option<Field>
     requires { (at ≤ 6) × (v ≤ 99999) }
-    ensures { result ≡ fraction way v at (drop at s.now) }
+    ensures value { result ≡ fraction way v at s.now }
+    ensures narrow { IfSome result (λ f. f.width ≤ at + 6) }
 {
-    let Run::Of(n, x) = leading_at(s, at, 6) else {
-        return Field::Bad;
-    };
-    if n == 0 {
-        return Field::Bad;
+    let digits = leading(s, 6)?;
+    if digits.width == 0 || !ends_at(s, digits.width) {
+        return None;
     }
-    let end = at + n;
-    if !ends_at(s, end) {
-        return Field::Bad;
-    }
-    Field::Value(v * 1000 + micros(way, millionths(n, x)), end)
+    Some(Field {
+        value: v * 1000 + micros(way, millionths(digits.width, digits.value)),
+        width: at + digits.width,
+    })
 }
 
-// A time, in microseconds, rounded as told.
-pub fn time(s: &[u8], way: Rounding) -> Field
-    ensures { result ≡ time_field way s.now }
+// A time, in microseconds, rounded as told: at most five digits, a point and six digits.
+pub fn time(s: &[u8], way: Rounding) -> Option<Field>
+    ensures value { result ≡ time_field way s.now }
+    ensures narrow { IfSome result (λ f. f.width ≤ 12) }
 {
-    let Run::Of(n, v) = leading(s, 5) else {
-        return Field::Bad;
-    };
-    if n == 0 {
-        return Field::Bad;
+    let Field { value, width } = leading(s, 5)?;
+    if width == 0 {
+        return None;
     }
-    if ends_at(s, n) {
-        return Field::Value(v * 1000, n);
+    if ends_at(s, width) {
+        let value = value * 1000;
+        return Some(Field { value, width });
     }
-    if !point_at(s, n) {
-        return Field::Bad;
+    if !point_at(s, width) {
+        return None;
     }
-    fraction_at(s, n + 1, v, way)
+    fraction(&s[width + 1..], width + 1, value, way)
 }
 
 // A count.
-pub fn count(s: &[u8]) -> Field
-    ensures { result ≡ count_field s.now }
+pub fn count(s: &[u8]) -> Option<Field>
+    ensures value { result ≡ count_field s.now }
+    ensures narrow { IfSome result (λ f. f.width ≤ 12) }
 {
-    let Run::Of(n, v) = leading(s, 4) else {
-        return Field::Bad;
-    };
-    if n == 0 {
-        return Field::Bad;
+    let digits = leading(s, 4)?;
+    if digits.width == 0 || !ends_at(s, digits.width) {
+        return None;
     }
-    if !ends_at(s, n) {
-        return Field::Bad;
-    }
-    Field::Value(v, n)
+    Some(digits)
 }

@@ -3,7 +3,6 @@
 use mathlib.Core.Path.{sym, ◌∙◌}
 use contract.Lifetimes.{Lfts}
 use Rattle.basics.specs.Determined.{Determined, DeterminedWith}
-use Rattle.put.proofs.Put.length.Reads as put_length_reads
 use Rattle.put.proofs.count_len.Reads as count_len
 use Rattle.put.proofs.put_count.Reads as put_count
 use Rattle.put.proofs.put_text.Reads as put_text
@@ -22,9 +21,6 @@ put_text_determined κs a x y r s p q = (p.0 ∙ sym q.0, p.1 ∙ sym q.1)
 
 pub spaced_count_determined : (κs : Lfts 1) → DeterminedWith (λ x. x.0.now) (spaced_count.Learnt κs)
 spaced_count_determined κs a x y r s p q = (p.0 ∙ sym q.0, p.1 ∙ sym q.1)
-
-pub put_length_determined : Determined (put_length_reads.Learnt tt)
-put_length_determined a x y r s p q = p ∙ sym q
 
 pub count_len_determined : Determined (count_len.Learnt tt)
 count_len_determined a x y r s p q = p ∙ sym q

@@ -14,12 +14,12 @@ use lib.ListN.{length, drop, length-append}
 use lib.Seq.{drop-drop, drop_at}
 use Rattle.basics.specs.Text.{put_into}
 use Rattle.basics.proofs.FillLaws.{rest_at, back_at, rest_length, Filled, filled_part}
-use Rattle.put.specs.declared.Put.{Put}
+use Rattle.std.specs.Prelude.{Option}
 use Rattle.put.specs.Text.{put_answer, put_length}
 
 -- ---- writers
 
-pub written_all : (t o : List ℕ) {o₁ : List ℕ} {p : Put} {r : ℕ} → length t ≤ length o → r ≡ put_length p → p ≡ put_answer t o → o₁ ≡ put_into t o
+pub written_all : (t o : List ℕ) {o₁ : List ℕ} {p : Option ℕ} {r : ℕ} → length t ≤ length o → r ≡ put_length p → p ≡ put_answer t o → o₁ ≡ put_into t o
     → (r ≡ length t) × (o₁ ≡ t ++ drop r o)
 written_all t o {o₁} {p} {r} h n a w =
     let l = le-leb (length t) (length o) h in

@@ -14,8 +14,7 @@ use lib.Seq.{take_at, drop_at, drop-drop, append_snoc, length-take-le}
 use borrow.Author.Tests.{le-leb, lt-leb}
 use Rattle.basics.specs.Text.{put_into}
 use Rattle.basics.proofs.FillLaws.{rest_at, back_at, rest_length, Filled, filled_part, filled_byte}
-use Rattle.put.specs.declared.Put.{Put}
-use Rattle.put.specs.declared.Put.TheVariants.{Wrote, Short}
+use Rattle.std.specs.Prelude.{Option, Some, None}
 use Rattle.put.specs.Text.{put_answer, put_answer_at, put_at, put_length}
 use Rattle.put.proofs.OutputLaws.{written_all}
 
@@ -26,7 +25,7 @@ pub filled_within : {o o₁ p : List ℕ} {a : ℕ} → Filled o o₁ p a → a 
 filled_within {o} {o₁} {p} {a} f = omega (arith, f.long, f.kept, ap length f.holds, length-append p (drop a o))
 
 -- the rest is lent to a writer of t, and has the room
-pub filled_put : {o o₁ p : List ℕ} {a : ℕ} → Filled o o₁ p a → (t : List ℕ) {q : Put} {ys : List ℕ} {k : ℕ} → a + length t ≤ length o
+pub filled_put : {o o₁ p : List ℕ} {a : ℕ} → Filled o o₁ p a → (t : List ℕ) {q : Option ℕ} {ys : List ℕ} {k : ℕ} → a + length t ≤ length o
     → q ≡ put_answer t (rest_at o₁ a) → k ≡ put_length q → length ys ≡ length (rest_at o₁ a) → ys ≡ put_into t (rest_at o₁ a)
     → Filled o (back_at o₁ a ys) (p ++ t) (a + k)
 filled_put {o} {o₁} {p} {a} f t h e n l w =
@@ -34,7 +33,7 @@ filled_put {o} {o₁} {p} {a} f t h e n l w =
     filled_part f t (omega arith) g.0 l g.1
 
 -- the same, behind a space at the place a
-pub filled_field : (o : List ℕ) (a : ℕ) (t : List ℕ) {q : Put} {ys : List ℕ} {k : ℕ} → a + length t < length o
+pub filled_field : (o : List ℕ) (a : ℕ) (t : List ℕ) {q : Option ℕ} {ys : List ℕ} {k : ℕ} → a + length t < length o
     → q ≡ put_answer t (rest_at (set o a 32) (a + 1)) → k ≡ put_length q → length ys ≡ length (rest_at (set o a 32) (a + 1))
     → ys ≡ put_into t (rest_at (set o a 32) (a + 1)) → Filled o (back_at (set o a 32) (a + 1) ys) (take a o ++ 32 ∷ t) (a + 1 + k)
 filled_field o a t h e n l w =
@@ -63,16 +62,16 @@ filled_at {o} {o₁} {o₂} {p} {a} {r} f t l e =
 -- ---- the writer's answer
 
 module _ (t o : List ℕ) (a : ℕ) where
-  pub at_short : length o < a + length t → (Short ≡ put_answer_at t a o) × (o ≡ put_at t a o)
+  pub at_short : length o < a + length t → (None ≡ put_answer_at t a o) × (o ≡ put_at t a o)
   at_short h = let l = lt-leb (a + length t) (length o) h in (rw l, rw l)
 
-  pub at_filled : {o₁ : List ℕ} {r n : ℕ} → a ≤ length o → Filled o o₁ (take a o ++ t) r → n ≡ length t → (Wrote n ≡ put_answer_at t a o) × (o₁ ≡ put_at t a o)
+  pub at_filled : {o₁ : List ℕ} {r n : ℕ} → a ≤ length o → Filled o o₁ (take a o ++ t) r → n ≡ length t → (Some n ≡ put_answer_at t a o) × (o₁ ≡ put_at t a o)
   at_filled {o₁} {r} h f e =
       let p = put_is a r t h f in
       let l = le-leb (a + length t) (length o) (omega (arith, p.0, filled_within f)) in
       (rw (l, e), rw (l, ← p.0) p.1)
 
-  pub at_all : {o₁ : List ℕ} {q : Put} {k : ℕ} → a + length t ≤ length o → k ≡ put_length q → (q ≡ put_answer_at t a o) × (o₁ ≡ put_at t a o)
+  pub at_all : {o₁ : List ℕ} {q : Option ℕ} {k : ℕ} → a + length t ≤ length o → k ≡ put_length q → (q ≡ put_answer_at t a o) × (o₁ ≡ put_at t a o)
       → PutAt t a (a + k) o o₁
   at_all {o₁} {q} {k} h n e =
       let l = le-leb (a + length t) (length o) h in

@@ -1,10 +1,8 @@
 -- What the writers write (document 01, "The listing"): "no leading zeros in the whole part (one `0` if it is zero), no trailing zeros in
 -- the fraction, and no point if the fraction is zero".
-use Rattle.std.specs.Prelude.{ℕ, zero, suc, ◌/◌, ◌%◌, ◌^◌, ◌+◌, List, [], ◌∷◌, ◌++◌, length, take, drop, ltb, leb, eqb}
+use Rattle.std.specs.Prelude.{ℕ, zero, suc, ◌/◌, ◌%◌, ◌^◌, ◌+◌, List, [], ◌∷◌, ◌++◌, length, take, drop, ltb, leb, eqb, Option, Some, None, unwrap_or}
 use Rattle.basics.specs.Choice.{pick}
 use Rattle.basics.specs.Over.{first_to}
-use Rattle.put.specs.declared.Put.{Put}
-use Rattle.put.specs.declared.Put.TheVariants.{Wrote, Short}
 
 -- the last k decimal digits of n
 abbrev pub digits_of : ℕ → ℕ → List ℕ
@@ -39,16 +37,16 @@ unfoldable pub time_text : ℕ → List ℕ
 time_text us = count_text (us / 1000) ++ pointed (trim (digits_of 3 (us % 1000)))
 
 -- what a writer of a text answers, of an output that holds `out`
-abbrev pub put_answer : List ℕ → List ℕ → Put
-put_answer text out = pick (leb (length text) (length out)) (Wrote (length text)) Short
+abbrev pub put_answer : List ℕ → List ℕ → Option ℕ
+put_answer text out = pick (leb (length text) (length out)) (Some (length text)) None
 
 -- the same of a text that is put at a place of the output, and what the output then holds: but for the text it is as it was
-abbrev pub put_answer_at : List ℕ → ℕ → List ℕ → Put
-put_answer_at text at out = pick (leb (at + length text) (length out)) (Wrote (length text)) Short
+abbrev pub put_answer_at : List ℕ → ℕ → List ℕ → Option ℕ
+put_answer_at text at out = pick (leb (at + length text) (length out)) (Some (length text)) None
 
 abbrev pub put_at : List ℕ → ℕ → List ℕ → List ℕ
 put_at text at out = pick (leb (at + length text) (length out)) (take at out ++ (text ++ drop (at + length text) out)) out
 
-abbrev pub put_length : Put → ℕ
-put_length (Wrote n) = n
-put_length Short = 0
+-- how many bytes a writer's answer says were written: `unwrap_or(0)` of it
+abbrev pub put_length : Option ℕ → ℕ
+put_length answer = unwrap_or answer 0

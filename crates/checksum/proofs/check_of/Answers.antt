@@ -1,25 +1,27 @@
-use Prim.Native.Nat.{◌+◌}
-use mathlib.Core.Path.{◌∙◌}
+use Prim.Native.Nat.{◌+◌, ◌/◌, ◌%◌}
+use mathlib.Core.Path.{◌≡◌, ◌∙◌}
 use native.Mathlib.Omega.{arith}
-use Rattle.checksum.proofs.SumLaws.{sum_none, sum_more, sum_last, check_is}
+use lib.ListN.{length}
+use Rattle.checksum.proofs.SumLaws.{sum_none, sum_pair, sum_last, check_is}
 use Rattle.checksum.proofs.check_of.Goals as goal
+use Rattle.checksum.proofs.check_of.Goals.{in_default, in-len1-up}
 
-pub loop-k-init : goal.loop-k-init
-loop-k-init c = (omega arith, omega arith, sum_none _)
+pub loop-pair-init : goal.loop-pair-init
+loop-pair-init c = sum_none _
 
-pub plus-sum-requires : goal.plus-sum-requires
-plus-sum-requires c = (c.loop-k.invariant.1, c.word.ensures.upper_bound)
-
-pub loop-k-preserved : goal.loop-k-preserved
-loop-k-preserved c =
-    (omega arith, c.plus-sum.ensures.upper_bound, c.plus-sum.ensures.value ∙ sum_more c.loop-k.k _ c.loop-k.invariant.2 c.word.ensures.value)
-
-pub plus-requires : goal.plus-requires
-plus-requires c = (c.loop-k.invariant.1, c.word-then-s-eq1.ensures.upper_bound)
-
-pub returns-then-s-eq1 : goal.returns-then-s-eq1
-returns-then-s-eq1 c =
-    check_is (c.loop-k.k + 1) _ (omega arith) (c.plus.ensures.value ∙ sum_last c.loop-k.k _ (omega arith) c.loop-k.invariant.2 c.word-then-s-eq1.ensures.value)
+pub loop-pair-preserved : goal.loop-pair-preserved
+loop-pair-preserved c =
+    let l = c.loop-pair in
+    c.plus-sum.ensures ∙ sum_pair l.pair-index c.args.s.now c.as_chunks.ensures.front (omega (arith, c.as_chunks.ensures.front_len)) l.invariant c.from_be_bytes.ensures
 
 pub returns : goal.returns
-returns c = check_is c.loop-k.k _ (omega arith) c.loop-k.invariant.2
+returns c =
+    let s = c.args.s.now in
+    let l = c.loop-pair in
+    let pairs : length c.as_chunks.result.0.now ≡ length s / 2 = c.as_chunks.ensures.front_len in
+    let left : length c.as_chunks.result.1.now ≡ length s % 2 = c.as_chunks.ensures.back_len in
+    c.from.ensures ∙ elim c.if-rest-lt1.branch [
+      | in_default w ↦ check_is l.pair-index s (omega arith) (w.sum-is ∙ l.invariant)
+      | in-len1-up w ↦ check_is (l.pair-index + 1) s (omega arith)
+          (w.sum-is ∙ w.plus-sum-in-len1-up.ensures ∙ sum_last l.pair-index s (omega arith) c.as_chunks.ensures.back l.invariant w.from_be_bytes-in-len1-up.ensures)
+    ]

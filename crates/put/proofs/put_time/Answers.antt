@@ -1,4 +1,4 @@
--- `put::put_time` meets its contract: where the text fits, the whole part fills the output up to its width, and the rest is lent to the fraction. Assumes nothing.
+-- `put::put_time` meets its contract: where the text fits, its front is lent to the digits of the whole part, and the rest of it to the fraction. Assumes nothing.
 use Prim.Native.Nat.{◌+◌, ◌%◌}
 use mathlib.Core.Path.{◌≡◌, refl}
 use native.Mathlib.Omega.{arith}
@@ -12,7 +12,7 @@ use Rattle.put.proofs.put_time.Goals as goal
 use Rattle.put.proofs.put_time.Goals.{After-fraction_len}
 
 long : (c : goal.After-fraction_len) → c.width_of-w.result + c.fraction_len.result ≡ length (time_text c.args.us)
-long c = parts_length c.args.us c.width_of-w.ensures c.fraction_len.ensures
+long c = parts_length c.args.us (rw c.from-whole.ensures at c.width_of-w.ensures) c.fraction_len.ensures
 
 pub overflow_add-n : goal.overflow_add-n
 overflow_add-n c = omega (arith, long (goal.at.overflow_add-n c).After-fraction_len, time_length c.args.us (omega arith))
@@ -25,8 +25,5 @@ returns-then-out-n c =
 pub returns : goal.returns
 returns c =
     let us = c.args.us in
-    let whole = count_filled _ c.width_of-w.ensures c.put_digits.ensures c.put_digits.auto.out in
-    put_filled
-    (parts_filled us c.width_of-w.result c.fraction_len.ensures
-    (filled_part whole (fraction_text (us % 1000)) (omega arith) refl c.put_fraction.auto.out c.put_fraction.ensures))
-    c.if-out-n.false
+    let whole = rw c.from-whole.ensures at (count_filled _ c.width_of-w.ensures (omega arith) c.put_digits.ensures) in
+    put_filled (parts_filled us c.width_of-w.result c.fraction_len.ensures (filled_part whole (fraction_text (us % 1000)) (omega arith) refl c.put_fraction.auto.out c.put_fraction.ensures)) c.if-out-n.false

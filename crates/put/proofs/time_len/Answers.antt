@@ -4,7 +4,7 @@ use Rattle.put.proofs.TimeLaws.{parts_length, time_length}
 use Rattle.put.proofs.time_len.Goals as goal
 
 pub returns : goal.returns
-returns c = parts_length c.args.us c.width_of-w.ensures c.fraction_len.ensures
+returns c = parts_length c.args.us (rw c.from.ensures at c.width_of.ensures) c.fraction_len.ensures
 
 pub overflow_add-result : goal.overflow_add-result
 overflow_add-result c = omega (arith, returns c, time_length c.args.us (omega arith))

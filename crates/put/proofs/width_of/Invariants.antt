@@ -1,12 +1,7 @@
--- `put::width_of` meets its contract. The loop's invariant: the power is 10 ^ k, and n is below none of 10, .., 10 ^ k. Assumes nothing.
-use Prim.Native.Nat.{◌-◌, ◌^◌, ◌≤◌}
-use mathlib.Core.Path.{◌≡◌}
-use Rattle.basics.specs.Over.{first_to}
-use Rattle.put.proofs.TextLaws.{tens}
+-- `put::width_of` meets its contract. The loop's invariant: n has no fewer digits than the turn tests for, and the power is the last one passed. Assumes nothing.
+use Prim.Native.Nat.{◌-◌}
+use Rattle.put.proofs.TextLaws.{Wider}
 use Rattle.put.proofs.width_of.Given as goal
 
 abbrev pub invariant-loop-k : goal.invariant-loop-k
-invariant-loop-k l = (l.k ≤ 19) × (l.power ≡ 10 ^ l.k) × (first_to l.k (tens l.n) ≡ l.k)
-
-abbrev pub decreases-loop-k : goal.decreases-loop-k
-decreases-loop-k l = 19 - l.k
+invariant-loop-k l = Wider l.n (l.k - 1) l.power
