@@ -8,9 +8,10 @@ use native.Mathlib.Decide.{dec_lt}
 use native.Mathlib.Omega.{arith}
 use borrow.Author.Tests.{eqb-false, ne_eqb, leb-true, leb-false, le-leb, lt-leb}
 use lib.Dec.{leb, eqb}
+use Rattle.std.specs.Prelude.{Option}
 use Rattle.basics.proofs.ChoiceLaws.{or_neither}
 use Rattle.table.specs.declared.Fault.TheVariants.{BadField, OutOfRange, AlphaRises}
-use Rattle.table.specs.declared.Checked.{Checked}
+use Rattle.table.specs.Faults.{Checked}
 use Rattle.table.specs.Limits.{max_alpha}
 use Rattle.table.specs.Faults.{Refuses, ◌then◌, unless}
 use Rattle.table.specs.Rules.{may_follow, alpha_fault}
@@ -26,7 +27,7 @@ use Rattle.line.proofs.StatedLaws.{formed_states, count_in_lem, count_stated}
 use Rattle.line.proofs.FieldCalls.{count_formed}
 
 module _ (past : Past) (n : ℕ) {w : List ℕ} (a : first w ≡ w) where
-  abbrev A : Field
+  abbrev A : Option Field
   A = count_field w
 
   abbrev least : ℕ → Checked

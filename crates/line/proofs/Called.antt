@@ -12,13 +12,12 @@ use Rattle.basics.specs.Text.{bytes}
 use Rattle.basics.proofs.ChoiceLaws.{and_true}
 use Rattle.table.specs.declared.Refusal.{Refusal}
 use Rattle.table.specs.declared.Fault.TheVariants.{BadForm}
-use Rattle.table.specs.declared.Checked.{Checked}
-use Rattle.table.specs.declared.Checked.TheVariants.{Fine, Refused}
+use Rattle.table.specs.Faults.{Checked}
+use Rattle.std.specs.Prelude.{Result, Ok, Err}
 use Rattle.table.specs.Faults.{Refuses}
 use Rattle.table.proofs.Deciding.{fails, failing}
 use Rattle.line.specs.declared.Past.{Past}
 use Rattle.line.specs.declared.Said.{Said}
-use Rattle.line.specs.declared.Said.TheVariants.{Not}
 use Rattle.line.specs.Fields.{form}
 use Rattle.line.specs.Line.{◌gives◌, cpus_line, group_line, task_line, alpha_line, use_line, line_says}
 use Rattle.line.specs.Stated.{Without, IsLine}
@@ -33,24 +32,20 @@ use Rattle.line.proofs.UseCalls.{use_calls, use_given}
 
 -- ---- what is said after a check
 
--- what says something is no refusal
-abbrev Says : Said → Type 0
-Says y = (r : Refusal) → y ≡ Not r → ◌≡◌ {A = ℕ} 0 1
-
-not_given : (x : Checked) {y : Said} {k p : ℕ} → Says y → SaysNot (x gives y) k p → Refuses x k p
-not_given Fine h (r, e, t) = let z = h r e in absurd (omega arith)
-not_given (Refused r) h (q, e, t) = let z : r ≡ q = cc in (q, rw z, t)
+not_given : (x : Checked) (y : Said) {k p : ℕ} → SaysNot (x gives y) k p → Refuses x k p
+not_given (Ok _) y (r, e, t) = let z : ◌≡◌ {A = ℕ} 0 1 = cc in absurd (omega arith)
+not_given (Err r) y (q, e, t) = let z : r ≡ q = cc in (q, rw z, t)
 
 given_not : (x : Checked) (y : Said) {k p : ℕ} → Refuses x k p → SaysNot (x gives y) k p
-given_not Fine y (r, e, t) = let z : ◌≡◌ {A = ℕ} 0 1 = cc in absurd (omega arith)
-given_not (Refused r) y (q, e, t) = let z : r ≡ q = cc in (q, rw z, t)
+given_not (Ok _) y (r, e, t) = let z : ◌≡◌ {A = ℕ} 0 1 = cc in absurd (omega arith)
+given_not (Err r) y (q, e, t) = let z : r ≡ q = cc in (q, rw z, t)
 
 -- 2 of line n
-not_told : {n k p : ℕ} → SaysNot (Not (record { fault = BadForm; place = n })) k p → (2 ≡ k) × (n ≡ p)
+not_told : {n k p : ℕ} → SaysNot (Err (record { fault = BadForm; place = n })) k p → (2 ≡ k) × (n ≡ p)
 not_told {n} (r, e, t) = let q : record { fault = BadForm; place = n } ≡ r = cc in (cc t.number, cc t.place)
 
 -- a choice of what a line says
-chosen : (b : Bool) (x y : Said) (P : Said → Type 0) → (b ≡ true → P x) → (b ≡ false → P y) → P (pick b x y)
+chosen : (b : Bool) (x y : Result Said Refusal) (P : Result Said Refusal → Type 0) → (b ≡ true → P x) → (b ≡ false → P y) → P (pick b x y)
 chosen true x y P f g = f refl
 chosen false x y P f g = g refl
 
@@ -96,11 +91,11 @@ module _ (past : Past) (n : ℕ) (s : List ℕ) where
 
   -- ---- what is said is called for
 
-  abbrev Called : ℕ → ℕ → Said → Type 0
+  abbrev Called : ℕ → ℕ → Result Said Refusal → Type 0
   Called k p x = SaysNot x k p → LineCallsFor past n s k × (p ≡ n)
 
   -- of none of these forms and places
-  form_called : (k p : ℕ) → is_cpus_test ≡ false → is_group ≡ false → is_task_test ≡ false → is_alpha_test ≡ false → is_use_test ≡ false → Called k p (Not (record { fault = BadForm; place = n }))
+  form_called : (k p : ℕ) → is_cpus_test ≡ false → is_group ≡ false → is_task_test ≡ false → is_alpha_test ≡ false → is_use_test ≡ false → Called k p (Err (record { fault = BadForm; place = n }))
   form_called k p x u y v z q =
       let r = not_told q in (
         rw (← r.0) (LineCallsFor.bad_form (λ e m l. fails is_cpus_test (λ (l : IsLine "cpus" (m ∷ []) s). cpus_form e l) x l)
@@ -117,27 +112,27 @@ module _ (past : Past) (n : ℕ) (s : List ℕ) where
       chosen is_cpus_test _ _ (Called k p)
       (λ x q.
       let f = and_true (form (bytes "cpus") 2 s) (eqb n 1) x in
-      let r = cpus_calls n (others_alone s 0) k p (not_given _ (λ r e. cc) q) in
+      let r = cpus_calls n (others_alone s 0) k p (not_given _ _ q) in
       (LineCallsFor.of_cpus (eqb-true n 1 f.1) (form_line "cpus" 1 s w f.0) r.0, sym r.1))
       (λ x. chosen is_group _ _ (Called k p)
       (λ u q.
       let f = group_parts u in
-      let r = group_calls past n (others_alone s 0) (others_alone s 1) k p (not_given _ (λ r e. cc) q) in
+      let r = group_calls past n (others_alone s 0) (others_alone s 1) k p (not_given _ _ q) in
       (LineCallsFor.of_group f.1 f.2 (form_line "group" 2 s w f.0) r.0, sym r.1))
       (λ u. chosen is_task_test _ _ (Called k p)
       (λ y q.
       let f = and_true (form (bytes "task") 4 s) (ltb 1 n) y in
-      let r = task_calls past n (others_alone s 0) (others_alone s 1) (others_alone s 2) k p (not_given _ (λ r e. cc) q) in
+      let r = task_calls past n (others_alone s 0) (others_alone s 1) (others_alone s 2) k p (not_given _ _ q) in
       (LineCallsFor.of_task (ltb-true 1 n f.1) (form_line "task" 3 s w f.0) r.0, sym r.1))
       (λ y. chosen is_alpha_test _ _ (Called k p)
       (λ v q.
       let f = and_true (form (bytes "alpha") 2 s) past.fresh v in
-      let r = alpha_calls past n (others_alone s 0) k p (not_given _ (λ r e. cc) q) in
+      let r = alpha_calls past n (others_alone s 0) k p (not_given _ _ q) in
       (LineCallsFor.of_alpha f.1 (form_line "alpha" 1 s w f.0) r.0, sym r.1))
       (λ v. chosen is_use_test _ _ (Called k p)
       (λ z q.
       let f = and_true (form (bytes "use") 5 s) (ltb 0 past.tasks) z in
-      let r = use_calls past n (others_alone s 0) (others_alone s 1) (others_alone s 2) (others_alone s 3) k p (not_given _ (λ r e. cc) q) in
+      let r = use_calls past n (others_alone s 0) (others_alone s 1) (others_alone s 2) (others_alone s 3) k p (not_given _ _ q) in
       (LineCallsFor.of_use (ltb-true 0 _ f.1) (form_line "use" 4 s w f.0) r.0, sym r.1))
       (λ z. form_called k p x u y v z)))))
 

@@ -7,11 +7,12 @@ use mathlib.Core.List.{List}
 use native.Mathlib.Omega.{arith}
 use borrow.Author.Tests.{ltb-true, lt-ltb, le-ltb}
 use lib.Dec.{ltb}
+use Rattle.std.specs.Prelude.{Option}
 use Rattle.basics.specs.Choice.{within}
 use Rattle.basics.specs.Exactly.{◌exactly_if◌}
 use Rattle.basics.proofs.ChoiceLaws.{and_true}
 use Rattle.table.specs.declared.Fault.TheVariants.{BadField, OutOfRange, BadTimes, TooManyTasks}
-use Rattle.table.specs.declared.Checked.{Checked}
+use Rattle.table.specs.Faults.{Checked}
 use Rattle.table.specs.Limits.{max_cpus, max_tasks}
 use Rattle.table.specs.Faults.{Refuses, ◌then◌, unless}
 use Rattle.table.specs.Rules.{times_in_range, times_in_order, times_fault}
@@ -42,7 +43,7 @@ module _ (n : ℕ) {m : List ℕ} (a : first m ≡ m) where
 
   pub cpus_calls : (k p : ℕ) → Refuses cpus_check k p → CpusCalls k p
   cpus_calls k p =
-      let M : Field = count_field m in
+      let M : Option Field = count_field m in
       from_two (unless (formed M) BadField n) (unless (within 1 max_cpus (value M)) OutOfRange n) k p
       (from_rule CpusCalls (formed M) BadField n k p (λ e. (CpusLineCalls.bad_field (λ M s. fails _ count_formed.1 e (M, s)), refl)))
       (λ f. from_rule CpusCalls (within 1 max_cpus (value M)) OutOfRange n k p
@@ -55,13 +56,13 @@ module _ (n : ℕ) {m : List ℕ} (a : first m ≡ m) where
 -- ---- `task T C D`
 
 module _ (past : Past) (n : ℕ) {t c d : List ℕ} (a : first t ≡ t) (b : first c ≡ c) (e : first d ≡ d) where
-  abbrev T : Field
+  abbrev T : Option Field
   T = time_field Down t
 
-  abbrev C : Field
+  abbrev C : Option Field
   C = time_field Up c
 
-  abbrev D : Field
+  abbrev D : Option Field
   D = time_field Down d
 
   abbrev times_formed : Bool

@@ -10,20 +10,21 @@ use lib.ListN.{length, get_or, drop}
 use lib.Seq.{drop-cons, drop-drop}
 use lib.Dec.{eqb}
 use borrow.Author.Tests.{eqb-true}
+use denote.Param.Members.{Shared}
+use Rattle.std.specs.Fn.{FnReturnsAt}
+use denote.Ref.{Bor}
+use Rattle.std.specs.Prelude.{Option, Some, None, Ok, Err}
+use Rattle.table.specs.declared.Refusal.{Refusal}
+use Rattle.table.specs.declared.Fault.TheVariants.{BadField}
 use Rattle.basics.specs.Choice.{pick}
 use Rattle.basics.proofs.ChoiceLaws.{and_true}
 use Rattle.field.specs.declared.Field.{Field}
-use Rattle.field.specs.declared.Field.TheVariants.{Value, Bad}
-use Rattle.field.specs.declared.Rounding.TheVariants.{Down, Up}
-use Rattle.field.specs.Number.{apart, first, time_field, count_field}
+use Rattle.field.specs.declared.Rounding.{Rounding}
+use Rattle.field.specs.Number.{reads_as, apart, first, time_field, count_field}
 use Rattle.field.proofs.FirstField.{time_first, count_first}
 use Rattle.field.proofs.ReadAs.{time_width, count_width}
-use Rattle.line.specs.declared.FieldKind.{FieldKind}
-use Rattle.line.specs.declared.FieldKind.TheVariants.{Count, TimeDown, TimeUp}
-use Rattle.line.specs.declared.FieldAt.{FieldAt}
-use Rattle.line.specs.declared.FieldAt.TheVariants.{Number, NoNumber}
 use Rattle.line.specs.Fields.{others, fields, filled, field_count, same, form}
-use Rattle.line.specs.Places.{field_as, placed}
+use Rattle.line.specs.Places.{placed}
 
 -- ---- a line's form
 
@@ -90,51 +91,50 @@ form_second w m s l e =
 
 -- ---- the number of a field
 
-pub as_nothing : (kind : FieldKind) → field_as kind [] ≡ Bad
-unfolding count_field time_field
-as_nothing Count = refl
-as_nothing TimeDown = refl
-as_nothing TimeUp = refl
+-- a reader reads a number off the field alone, and as wide as the field
+pub record Reader (read : List ℕ → Option Field) : Type 0 where
+  pub alone : (s : List ℕ) → read (first s) ≡ read s
+  pub wide : (s : List ℕ) (v n : ℕ) → read s ≡ reads_as v n → (n ≡ length (first s)) × (n ≤ 12)
 
--- a number is read off the field alone, and is as wide as the field
-as_alone : (kind : FieldKind) (s : List ℕ) → field_as kind (first s) ≡ field_as kind s
-as_alone Count s = count_first s
-as_alone TimeDown s = time_first Down s
-as_alone TimeUp s = time_first Up s
+pub counts : Reader count_field
+counts = record { alone = count_first; wide = λ s v n e. let w = count_width s v n e in omega arith }
 
-pub as_width : (kind : FieldKind) (s : List ℕ) (v n : ℕ) → field_as kind s ≡ Value v n → (n ≡ length (first s)) × (n ≤ 12)
-as_width Count s v n e = let w = count_width s v n e in omega arith
-as_width TimeDown s v n e = time_width Down s v n e
-as_width TimeUp s v n e = time_width Up s v n e
+pub times : (way : Rounding) → Reader (time_field way)
+times way = record { alone = time_first way; wide = time_width way }
 
 -- field k of s states v
-pub record States (kind : FieldKind) (s : List ℕ) (k v : ℕ) : Type 0 where
+pub record States (read : List ℕ → Option Field) (s : List ℕ) (k v : ℕ) : Type 0 where
   pub width : ℕ
-  pub says : field_as kind (get_or (fields s) k []) ≡ Value v width
+  pub says : read (get_or (fields s) k []) ≡ reads_as v width
 
-placed_bad : (p : ℕ) (x : Field) → placed p x ≡ NoNumber → x ≡ Bad
-placed_bad p (Value v n) e = let z : ◌≡◌ {A = ℕ} 0 1 = cc in absurd (omega arith)
-placed_bad p Bad e = refl
+placed_bad : (n p : ℕ) (x : Option Field) (r : Refusal) → Err r ≡ placed n p x → (x ≡ None) × (r ≡ record { fault = BadField; place = n })
+placed_bad n p (Some f) r e = let z : ◌≡◌ {A = ℕ} 0 1 = cc in absurd (omega arith)
+placed_bad n p None r e = (refl, cc)
 
-placed_value : (p : ℕ) (x : Field) (v q : ℕ) → placed p x ≡ Number v q → (n : ℕ) × ((x ≡ Value v n) × (q ≡ p + n + 1))
-placed_value p (Value u n) v q e = (n, (cc, cc))
-placed_value p Bad v q e = let z : ◌≡◌ {A = ℕ} 0 1 = cc in absurd (omega arith)
+placed_value : (n p : ℕ) (x : Option Field) (v q : ℕ) → Ok (v, q) ≡ placed n p x → (w : ℕ) × ((x ≡ reads_as v w) × (q ≡ p + w + 1))
+placed_value n p (Some x) v q e =
+    let f : (x.value, p + x.width + 1) ≡ (v, q) = cc in
+    (x.width, (ap (λ (t : ℕ × ℕ). reads_as t.0 x.width) f, sym (ap (λ (t : ℕ × ℕ). t.1) f)))
+placed_value n p None v q e = let z : ◌≡◌ {A = ℕ} 0 1 = cc in absurd (omega arith)
 
--- what the answer a to the number at the place of field k says of the field
-module _ (kind : FieldKind) {s : List ℕ} {k p : ℕ} where
-  at_field : {m : ℕ} → Begins s k m p → field_as kind (drop p s) ≡ field_as kind (get_or (fields s) k [])
-  at_field {m} b = sym (as_alone kind (drop p s)) ∙ ap (field_as kind) (here s k m p b)
+-- what `field_at`, given a function that reads so, answers to the place of field k: the function's answer x, and what is made of it
+module _ {read : List ℕ → Option Field} (reader : Reader read) {F : Type 0} {g : Shared F (Bor (List ℕ) × Unit {0}) (Option Field)} {f : F} {s : List ℕ} {k p : ℕ} where
+  -- the function's answer is that of the field alone
+  at_field : {m : ℕ} {x : Option Field} → Begins s k m p → (r : FnReturnsAt g f (drop p s) x) → x ≡ read r.shown.now → x ≡ read (get_or (fields s) k [])
+  at_field {m} b r e = e ∙ ap read r.shows ∙ sym (reader.alone (drop p s)) ∙ ap read (here s k m p b)
 
-  pub bad_field : {m : ℕ} {a : FieldAt} → Begins s k m p → a ≡ placed p (field_as kind (drop p s)) → a ≡ NoNumber → field_as kind (get_or (fields s) k []) ≡ Bad
-  bad_field b e g = sym (at_field b) ∙ placed_bad p (field_as kind (drop p s)) (sym e ∙ g)
+  pub bad_field : {m : ℕ} {r : Refusal} (n : ℕ) → Begins s k m p → (a : (x : Option Field) × FnReturnsAt g f (drop p s) x × (Err r ≡ placed n p x)) → a.0 ≡ read a.1.shown.now
+      → (read (get_or (fields s) k []) ≡ None) × (r ≡ record { fault = BadField; place = n })
+  bad_field {r = r} n b a e = let x = placed_bad n p a.0 r a.2 in (sym (at_field b a.1 e) ∙ x.0, x.1)
 
-  pub states : {m v q : ℕ} {a : FieldAt} → Begins s k m p → a ≡ placed p (field_as kind (drop p s)) → a ≡ Number v q → States kind s k v
-  states {v = v} {q = q} b e g =
-      let r = placed_value p (field_as kind (drop p s)) v q (sym e ∙ g) in
-      record { width = r.0; says = sym (at_field b) ∙ r.1.0 }
+  pub states : {m v q : ℕ} (n : ℕ) → Begins s k m p → (a : (x : Option Field) × FnReturnsAt g f (drop p s) x × (Ok (v, q) ≡ placed n p x)) → a.0 ≡ read a.1.shown.now → States read s k v
+  states {v = v} {q = q} n b a e =
+      let x = placed_value n p a.0 v q a.2 in
+      record { width = x.0; says = sym (at_field b a.1 e) ∙ x.1.0 }
 
-  pub steps : {m v q : ℕ} {a : FieldAt} → Begins s k (suc m) p → a ≡ placed p (field_as kind (drop p s)) → a ≡ Number v q
-      → States kind s k v × Begins s (suc k) m q
-  steps {m} {v} {q} b e g =
-      let r = placed_value p (field_as kind (drop p s)) v q (sym e ∙ g) in
-      (states b e g, rw r.1.1 (next s k m p r.0 b (as_width kind (drop p s) v r.0 r.1.0)))
+  pub steps : {m v q : ℕ} (n : ℕ) → Begins s k (suc m) p → (a : (x : Option Field) × FnReturnsAt g f (drop p s) x × (Ok (v, q) ≡ placed n p x)) → a.0 ≡ read a.1.shown.now
+      → States read s k v × Begins s (suc k) m q
+  steps {m} {v} {q} n b a e =
+      let x = placed_value n p a.0 v q a.2 in
+      let w = reader.wide (drop p s) v x.0 (sym (e ∙ ap read a.1.shows) ∙ x.1.0) in
+      (states n b a e, rw x.1.1 (next s k m p x.0 b w))

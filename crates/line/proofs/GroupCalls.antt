@@ -7,11 +7,12 @@ use mathlib.Core.List.{List}
 use native.Mathlib.Omega.{arith}
 use borrow.Author.Tests.{lt-ltb, le-ltb}
 use lib.Dec.{ltb}
+use Rattle.std.specs.Prelude.{Option}
 use Rattle.basics.specs.Choice.{within}
 use Rattle.basics.specs.Exactly.{◌exactly_if◌}
 use Rattle.basics.proofs.ChoiceLaws.{and_true}
 use Rattle.table.specs.declared.Fault.TheVariants.{BadField, OutOfRange, GroupNotRising}
-use Rattle.table.specs.declared.Checked.{Checked}
+use Rattle.table.specs.Faults.{Checked}
 use Rattle.table.specs.Limits.{max_resources, max_group}
 use Rattle.table.specs.Faults.{Refuses, ◌then◌, unless}
 use Rattle.table.specs.Refusals.{InRange}
@@ -34,10 +35,10 @@ both_in_range G K = (
 )
 
 module _ (past : Past) (n : ℕ) {g k : List ℕ} (a : first g ≡ g) (b : first k ≡ k) where
-  abbrev G : Field
+  abbrev G : Option Field
   G = count_field g
 
-  abbrev K : Field
+  abbrev K : Option Field
   K = count_field k
 
   abbrev group_formed : Bool

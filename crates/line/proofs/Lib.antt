@@ -1,5 +1,5 @@
 -- Laws of a line.
---   FormLaws     counting the fields of a line, and comparing its word
+--   FormLaws     counting the fields of a line, and its first field
 --   FieldLaws    where each field of a line begins, and what number is read there
 --   WordLaws     a line of a form is the line of its word and its fields
 --   LineForm     the line of a word and fields has the form

@@ -13,8 +13,8 @@ use Rattle.table.specs.declared.Pair.{Pair}
 use Rattle.table.specs.declared.Refusal.{Refusal}
 use Rattle.table.specs.declared.Resource.{Resource}
 use Rattle.table.specs.declared.Fault.TheVariants.{BadField, OutOfRange, NotRising, BadTotals, TooManyTasks, GroupNotRising}
-use Rattle.table.specs.declared.Checked.{Checked}
-use Rattle.table.specs.declared.Checked.TheVariants.{Fine, Refused}
+use Rattle.table.specs.Faults.{Checked}
+use Rattle.std.specs.Prelude.{Option, Result, Ok, Err}
 use Rattle.table.specs.Limits.{max_cpus, max_tasks, max_resources, max_group}
 use Rattle.table.specs.Faults.{◌then◌, unless}
 use Rattle.table.specs.Rules.{times_fault, alpha_fault, used_in_range, totals_fit}
@@ -24,7 +24,7 @@ use Rattle.table.proofs.Acceptance.{alpha_good}
 use Rattle.field.specs.declared.Field.{Field}
 use Rattle.line.specs.declared.Past.{Past}
 use Rattle.line.specs.declared.Said.{Said}
-use Rattle.line.specs.declared.Said.TheVariants.{Cpus, Group, Task as TaskLine, Alpha, Use, Not}
+use Rattle.line.specs.declared.Said.TheVariants.{Cpus, Group, Task as TaskLine, Alpha, Use}
 use Rattle.line.specs.Fields.{form}
 use Rattle.line.specs.Line.{formed, value, ◌gives◌, cpus_line, group_line, task_line, alpha_line, use_line, line_says}
 use Rattle.line.proofs.StatedLaws.{formed_states}
@@ -33,29 +33,29 @@ use Rattle.line.proofs.LineRules.{CpusRules, GroupRules, TaskRules, AlphaRules, 
 -- ---- from what is said to the rules
 
 -- a check that is followed by what the line says
-given : (x : Checked) (y : Said) (P : Said → Type 0) → (x ≡ Fine → P y) → ((r : Refusal) → P (Not r)) → P (x gives y)
-given Fine y P f g = f refl
-given (Refused r) y P f g = g r
+given : (x : Checked) (y : Said) (P : Result Said Refusal → Type 0) → (x ≡ Ok tt → P (Ok y)) → ((r : Refusal) → P (Err r)) → P (x gives y)
+given (Ok _) y P f g = f refl
+given (Err r) y P f g = g r
 
-cpus_rules : (n : ℕ) (f : Field) (P : Said → Type 0) → (CpusRules f (value f) → P (Cpus (value f))) → ((r : Refusal) → P (Not r)) → P (cpus_line n f)
+cpus_rules : (n : ℕ) (f : Option Field) (P : Result Said Refusal → Type 0) → (CpusRules f (value f) → P (Ok (Cpus (value f)))) → ((r : Refusal) → P (Err r)) → P (cpus_line n f)
 unfolding cpus_line
 cpus_rules n f P holds fails = given _ _ P go fails
   where
-    go : (unless (formed f) BadField n then unless (within 1 max_cpus (value f)) OutOfRange n) ≡ Fine → P (Cpus (value f))
+    go : (unless (formed f) BadField n then unless (within 1 max_cpus (value f)) OutOfRange n) ≡ Ok tt → P (Ok (Cpus (value f)))
     go e =
         let a = then_fine (unless (formed f) BadField n) _ e in
         let w = within_true 1 max_cpus (value f) (unless_fine _ OutOfRange n a.1) in
         holds (record { field = formed_states f (unless_fine _ BadField n a.0); least = w.0; most = w.1 })
 
-group_rules : (past : Past) (n : ℕ) (f g : Field) (P : Said → Type 0)
+group_rules : (past : Past) (n : ℕ) (f g : Option Field) (P : Result Said Refusal → Type 0)
     → let K : Resource = record { 0 = value g } in
-    (GroupRules past f g (value f) K → P (Group (value f) K)) → ((r : Refusal) → P (Not r)) → P (group_line past n f g)
+    (GroupRules past f g (value f) K → P (Ok (Group (value f) K))) → ((r : Refusal) → P (Err r)) → P (group_line past n f g)
 unfolding group_line
 group_rules past n f g P holds fails = given _ _ P go fails
   where
     go : (unless (formed f && formed g) BadField n then
         unless (within 1 max_group (value f) && within 1 max_resources (value g)) OutOfRange n then
-        unless (ltb past.group.0 (value g)) GroupNotRising n) ≡ Fine → P (Group (value f) (record { 0 = value g }))
+        unless (ltb past.group.0 (value g)) GroupNotRising n) ≡ Ok tt → P (Ok (Group (value f) (record { 0 = value g })))
     go e =
         let a = then_fine (unless (formed f && formed g) BadField n) _ e in
         let b = then_fine (unless (within 1 max_group (value f) && within 1 max_resources (value g)) OutOfRange n) _ a.1 in
@@ -74,14 +74,14 @@ group_rules past n f g P holds fails = given _ _ P go fails
           rising = ltb-true _ _ (unless_fine _ GroupNotRising n b.1);
         })
 
-task_rules : (past : Past) (n : ℕ) (f g h : Field) (P : Said → Type 0)
-    → (TaskRules past f g h (value f) (value g) (value h) → P (TaskLine (value f) (value g) (value h))) → ((r : Refusal) → P (Not r))
+task_rules : (past : Past) (n : ℕ) (f g h : Option Field) (P : Result Said Refusal → Type 0)
+    → (TaskRules past f g h (value f) (value g) (value h) → P (Ok (TaskLine (value f) (value g) (value h)))) → ((r : Refusal) → P (Err r))
     → P (task_line past n f g h)
 unfolding task_line
 task_rules past n f g h P holds fails = given _ _ P go fails
   where
-    go : (unless (formed f && formed g && formed h) BadField n then unless (ltb past.tasks max_tasks) TooManyTasks n then times_fault n (value f) (value g) (value h)) ≡ Fine
-        → P (TaskLine (value f) (value g) (value h))
+    go : (unless (formed f && formed g && formed h) BadField n then unless (ltb past.tasks max_tasks) TooManyTasks n then times_fault n (value f) (value g) (value h)) ≡ Ok tt
+        → P (Ok (TaskLine (value f) (value g) (value h)))
     go e =
         let a = then_fine (unless (formed f && formed g && formed h) BadField n) _ e in
         let b = then_fine (unless (ltb past.tasks max_tasks) TooManyTasks n) _ a.1 in
@@ -96,11 +96,11 @@ task_rules past n f g h P holds fails = given _ _ P go fails
           times = times_good n _ _ _ b.1;
         })
 
-alpha_rules : (past : Past) (n : ℕ) (f : Field) (P : Said → Type 0) → (AlphaRules past f (value f) → P (Alpha (value f))) → ((r : Refusal) → P (Not r)) → P (alpha_line past n f)
+alpha_rules : (past : Past) (n : ℕ) (f : Option Field) (P : Result Said Refusal → Type 0) → (AlphaRules past f (value f) → P (Ok (Alpha (value f)))) → ((r : Refusal) → P (Err r)) → P (alpha_line past n f)
 unfolding alpha_line
 alpha_rules past n f P holds fails = given _ _ P go fails
   where
-    go : (unless (formed f) BadField n then unless (leb 1 (value f)) OutOfRange n then alpha_fault n past.alpha (value f)) ≡ Fine → P (Alpha (value f))
+    go : (unless (formed f) BadField n then unless (leb 1 (value f)) OutOfRange n then alpha_fault n past.alpha (value f)) ≡ Ok tt → P (Ok (Alpha (value f)))
     go e =
         let a = then_fine (unless (formed f) BadField n) _ e in
         let b = then_fine (unless (leb 1 (value f)) OutOfRange n) _ a.1 in
@@ -113,10 +113,10 @@ alpha_rules past n f P holds fails = given _ _ P go fails
           follows = g.1;
         })
 
-use_rules : (past : Past) (n : ℕ) (f g h i : Field) (P : Said → Type 0)
+use_rules : (past : Past) (n : ℕ) (f g h i : Option Field) (P : Result Said Refusal → Type 0)
     → let p : Pair = record { requests = value g; longest = value h; total = value i } in
     let K : Resource = record { 0 = value f } in
-    (UseRules past f g h i K p → P (Use K p)) → ((r : Refusal) → P (Not r)) → P (use_line past n f g h i)
+    (UseRules past f g h i K p → P (Ok (Use K p))) → ((r : Refusal) → P (Err r)) → P (use_line past n f g h i)
 unfolding use_line
 use_rules past n f g h i P holds fails = given _ _ P go fails
   where
@@ -126,7 +126,7 @@ use_rules past n f g h i P holds fails = given _ _ P go fails
     go : (unless (formed f && formed g && formed h && formed i) BadField n then
         unless (within 1 max_resources (value f) && used_in_range p) OutOfRange n then
         unless (ltb past.last.0 (value f)) NotRising n then
-        unless (totals_fit p (past.sum + value i) past.run) BadTotals n) ≡ Fine → P (Use (record { 0 = value f }) p)
+        unless (totals_fit p (past.sum + value i) past.run) BadTotals n) ≡ Ok tt → P (Ok (Use (record { 0 = value f }) p))
     go e =
         let a = then_fine (unless (formed f && formed g && formed h && formed i) BadField n) _ e in
         let b = then_fine (unless (within 1 max_resources (value f) && used_in_range p) OutOfRange n) _ a.1 in
@@ -151,7 +151,7 @@ use_rules past n f g h i P holds fails = given _ _ P go fails
         })
 
 -- a choice of what a line says, by a form and a place
-chosen : (a b : Bool) (x y : Said) (P : Said → Type 0) → (a ≡ true → b ≡ true → P x) → P y → P (pick (a && b) x y)
+chosen : (a b : Bool) (x y : Result Said Refusal) (P : Result Said Refusal → Type 0) → (a ≡ true → b ≡ true → P x) → P y → P (pick (a && b) x y)
 chosen true true x y P f q = f refl refl
 chosen true false x y P f q = q
 chosen false b x y P f q = q

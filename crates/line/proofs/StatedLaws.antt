@@ -6,11 +6,11 @@ use mathlib.Core.Bool.{Bool, true, false}
 use mathlib.Core.List.{List, [], append-nil}
 use native.Mathlib.Omega.{arith}
 use lib.ListN.{length, get_or}
+use Rattle.std.specs.Prelude.{Option, Some, None}
 use Rattle.basics.specs.Text.{bytes}
 use Rattle.field.specs.declared.Field.{Field}
-use Rattle.field.specs.declared.Field.TheVariants.{Value, Bad}
 use Rattle.field.specs.declared.Rounding.{Rounding}
-use Rattle.field.specs.Number.{first, time_field, count_field}
+use Rattle.field.specs.Number.{reads_as, first, time_field, count_field}
 use Rattle.field.specs.Spelling.{Time, StatesTime, StatesCount}
 use Rattle.field.proofs.Spelled.{count_states, StatesHeld, time_states, states_count, states_time, no_apart_count, no_apart_time, some_count, some_time}
 use Rattle.line.specs.Fields.{others}
@@ -19,13 +19,13 @@ use Rattle.line.specs.Stated.{IsField}
 use Rattle.line.proofs.WordLaws.{field_alone, first_field, others_field}
 
 -- a field that is read as a number
-pub record IsRead (f : Field) (v : ℕ) : Type 0 where
+pub record IsRead (f : Option Field) (v : ℕ) : Type 0 where
   pub width : ℕ
-  pub is : f ≡ Value v width
+  pub is : f ≡ reads_as v width
 
-pub formed_states : (f : Field) → formed f ≡ true → IsRead f (value f)
-formed_states (Value v w) e = record { width = w; is = refl }
-formed_states Bad e = let z : ◌≡◌ {A = Bool} true false = cc in record { width = 0; is = cc }
+pub formed_states : (f : Option Field) → formed f ≡ true → IsRead f (value f)
+formed_states (Some f) e = record { width = f.width; is = refl }
+formed_states None e = let z : ◌≡◌ {A = Bool} true false = cc in record { width = 0; is = cc }
 
 -- ---- from what is read to what is stated
 

@@ -7,12 +7,13 @@ use mathlib.Core.List.{List}
 use native.Mathlib.Omega.{arith}
 use borrow.Author.Tests.{ltb-true, lt-ltb, le-ltb}
 use lib.Dec.{ltb}
+use Rattle.std.specs.Prelude.{Option}
 use Rattle.basics.specs.Choice.{within}
 use Rattle.basics.specs.Exactly.{◌exactly_if◌}
 use Rattle.basics.proofs.ChoiceLaws.{and_true}
 use Rattle.table.specs.declared.Pair.{Pair}
 use Rattle.table.specs.declared.Fault.TheVariants.{BadField, OutOfRange, NotRising, BadTotals}
-use Rattle.table.specs.declared.Checked.{Checked}
+use Rattle.table.specs.Faults.{Checked}
 use Rattle.table.specs.Limits.{max_resources}
 use Rattle.table.specs.At.{a_pair}
 use Rattle.table.specs.Faults.{Refuses, ◌then◌, unless}
@@ -40,16 +41,16 @@ in_range K p = (
 )
 
 module _ (past : Past) (n : ℕ) {k r c ct : List ℕ} (a : first k ≡ k) (b : first r ≡ r) (e : first c ≡ c) (f : first ct ≡ ct) where
-  abbrev K : Field
+  abbrev K : Option Field
   K = count_field k
 
-  abbrev N : Field
+  abbrev N : Option Field
   N = count_field r
 
-  abbrev longest : Field
+  abbrev longest : Option Field
   longest = time_field Up c
 
-  abbrev CT : Field
+  abbrev CT : Option Field
   CT = time_field Up ct
 
   abbrev p : Pair

@@ -4,7 +4,7 @@
 --   Stated    a line of words, and what its fields state, said a second way
 --   Refusals  which number a line calls for, said a second way
 -- and, cited by the contracts of private functions alone, so that no reader has to believe it:
---   Places    a field by its kind and place
+--   Places    a field by its place
 pub mod Fields
 pub mod Line
 pub mod Stated

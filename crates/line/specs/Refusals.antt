@@ -1,6 +1,6 @@
 -- Document 01, "Refusals by number", and requests 8/12 and 9/12 of document 02, of one line, said a second way: the number that it calls for, after what the lines before it leave. `Line` says it by tests in a
 -- chain that the first fault ends; here each case stands by itself, in the paper's order, over the words of the line and the figures that they state.
-use Rattle.std.specs.Prelude.{ℕ, ◌+◌, ◌≤◌, ◌<◌, ◌≡◌, true, List, [], ◌∷◌}
+use Rattle.std.specs.Prelude.{ℕ, ◌+◌, ◌≤◌, ◌<◌, ◌≡◌, true, List, [], ◌∷◌, Result, Err}
 use Rattle.basics.specs.Exactly.{◌exactly_if◌}
 use Rattle.table.specs.declared.Refusal.{Refusal}
 use Rattle.table.specs.Limits.{max_cpus, max_tasks, max_resources, max_group, max_alpha}
@@ -9,7 +9,6 @@ use Rattle.table.specs.Refusals.{InRange, TimesInRange, TimesInOrder, UsedInRang
 use Rattle.field.specs.Spelling.{Time, StatesCount}
 use Rattle.line.specs.declared.Past.{Past}
 use Rattle.line.specs.declared.Said.{Said}
-use Rattle.line.specs.declared.Said.TheVariants.{Not}
 use Rattle.line.specs.Line.{line_says}
 use Rattle.line.specs.Stated.{Without, IsLine, StatesGroup, StatesTask, UseFigures, StatesUse, held_pair}
 
@@ -76,8 +75,8 @@ pub data LineCallsFor (past : Past) (n : ℕ) (s : List ℕ) : ℕ → Type 0 wh
 -- ---- the two agree: a line is refused with the number that it calls for, and at its own number
 
 -- what is said is a refusal with this number, at this place
-abbrev pub SaysNot : Said → ℕ → ℕ → Type 0
-SaysNot x number place = (r : Refusal) × (x ≡ Not r) × Told r number place
+abbrev pub SaysNot : Result Said Refusal → ℕ → ℕ → Type 0
+SaysNot x number place = (r : Refusal) × (x ≡ Err r) × Told r number place
 
 abbrev pub LineRefused : Type 0
 LineRefused =

@@ -1,28 +1,26 @@
 // One line of a listing: its form, its fields, and the rules in the paper's order.
 #![tactic(auto)]
 
-ghost use Rattle.std.specs.Prelude.{◌≡◌, true, ◌&&◌, ◌≤◌, drop, eqb, ltb};
+ghost use Rattle.std.specs.Prelude.{◌≡◌, true, ◌&&◌, ◌≤◌, drop, eqb, ltb, Some, IfSome};
+ghost use Rattle.std.specs.Fn.{FnReturnsAt};
 ghost use Rattle.basics.specs.Text.{bytes};
-ghost use Rattle.table.specs.Limits.{max_tasks};
-ghost use Rattle.table.specs.declared.Fault.TheVariants.{TooManyTasks};
 ghost use Rattle.table.specs.Faults.{unless};
-ghost use Rattle.field.specs.Number.{first};
-ghost use Rattle.field.specs.declared.Field.TheVariants.{Value};
+ghost use Rattle.field.specs.Number.{reads_as, first, time_field};
+ghost use Rattle.field.specs.declared.Field.{Field};
 ghost use Rattle.field.specs.declared.Rounding.TheVariants.{Down, Up};
-ghost use Rattle.line.specs.declared.Said.TheVariants.{Not};
 ghost use Rattle.line.specs.Fields.{field_count, same, form};
-ghost use Rattle.line.specs.Places.{field_as, placed};
+ghost use Rattle.line.specs.Places.{placed};
 ghost use Rattle.line.specs.Line.{count_in, time_in, cpus_line, group_line, task_line, alpha_line, use_line, line_says};
 
 use field::{Field, Rounding};
-use table::{Checked, Fault, Pair, Refusal, Resource, Table};
+use table::{Fault, Pair, Refusal, Resource, Table};
 
 const RESOURCES: u32 = Table::MAX_RESOURCES as u32;
 
 // What the lines so far leave for the next one to be judged by: the K of the last `group` line (0: none); the tasks so far; of the
 // last of them its C, the K of its last `use` line (0: none), and the sum of its CT; how many of the tasks have an alpha, and the
-// last of these (0: none); and whether the last task is fresh, no line standing after its own.
-#[derive(Clone, Copy)]
+// last of these (0: none); and whether the last task is fresh, no line standing after its own. The 0 spares a case: any K rises above it.
+#[derive(Clone, Copy, Default)]
 pub struct Past {
     pub group: Resource,
     pub tasks: usize,
@@ -34,7 +32,7 @@ pub struct Past {
     pub fresh: bool,
 }
 
-// What a line says, or why it is refused.
+// What a line says.
 #[derive(Clone, Copy)]
 pub enum Said {
     Cpus(u32),
@@ -42,32 +40,17 @@ pub enum Said {
     Task(u32, u32, u32),
     Alpha(u32),
     Use(Resource, Pair),
-    Not(Refusal),
 }
 
-// What a field of a line is: a count, or a time and the way that it is rounded.
+// A line that is read: what the lines before it leave, its number, its text, and how many fields that has, 0 where one is empty: no line of the five has so many, so that one comparison
+// refuses both.
 #[derive(Clone, Copy)]
-enum FieldKind {
-    Count,
-    TimeDown,
-    TimeUp,
-}
-
-// What stands at a place of a line: a number, and the place where the next field begins; or no number.
-#[derive(Clone, Copy)]
-enum FieldAt {
-    Number(u32, usize),
-    NoNumber,
-}
-
-// Line `number` is refused.
-fn refuse(fault: Fault, number: u32) -> Said
-    ensures { result ≡ Not (record { fault = fault; place = number }) }
-{
-    Said::Not(Refusal {
-        fault,
-        place: number,
-    })
+struct Entry<'a> {
+    past: Past,
+    number: u32,
+    text: &'a [u8],
+    count: usize,
+    ghost counted: { count ≡ field_count text.now },
 }
 
 // How many fields the line has, or 0 where one is empty.
@@ -76,320 +59,252 @@ fn field_count(line: &[u8]) -> usize
 {
     let mut n: usize = 1;
     let mut gap = true;
-    let mut i: usize = 0;
-    while i < line.len() {
-        let at = i;
-        i += 1;
-        if field::ends_at(line, at) {
-            if gap {
-                return 0;
-            }
+    for i in 0..line.len() {
+        if !field::ends_at(line, i) {
+            gap = false;
+        } else if gap {
+            return 0;
+        } else {
             n += 1;
             gap = true;
+        }
+    }
+    if gap { 0 } else { n }
+}
+
+// Whether the word is the first field of s.
+fn is_first(s: &[u8], word: &[u8]) -> bool
+    requires { first word.now ≡ word.now }
+    ensures { result ≡ same (first s.now) word.now }
+{
+    s.starts_with(word) && field::ends_at(s, word.len())
+}
+
+// A period or a deadline. This and the next are the readers that `field_at` is handed: closures at its five calls would say the rounding five times.
+fn rounded_down(s: &[u8]) -> Option<Field>
+    ensures value { result ≡ time_field Down s.now }
+    ensures narrow { IfSome result (λ f. f.width ≤ 12) }
+{
+    field::time(s, Rounding::Down)
+}
+
+// A run time, a longest request or a total.
+fn rounded_up(s: &[u8]) -> Option<Field>
+    ensures value { result ≡ time_field Up s.now }
+    ensures narrow { IfSome result (λ f. f.width ≤ 12) }
+{
+    field::time(s, Rounding::Up)
+}
+
+impl Entry<'_> {
+    // Whether the line has k fields, the first of them the word.
+    fn is_form(&self, word: &[u8], k: usize) -> bool
+        requires { first word.now ≡ word.now }
+        ensures { result ≡ form word.now k self.now.text.now }
+    {
+        self.count == k && is_first(self.text, word)
+    }
+
+    // The fault, unless the test holds.
+    fn check(&self, holds: bool, fault: Fault) -> Result<(), Refusal>
+        ensures { result ≡ unless holds fault self.now.number }
+    {
+        if holds {
+            Ok(())
         } else {
-            gap = false;
+            Err(Refusal {
+                fault,
+                place: self.number,
+            })
         }
     }
-    if gap {
-        return 0;
-    }
-    n
-}
 
-// Whether two texts start with the same field.
-fn same_field(s: &[u8], w: &[u8]) -> bool
-    ensures { result ≡ same (first s.now) (first w.now) }
-{
-    let mut i: usize = 0;
-    while !field::ends_at(s, i) {
-        if field::ends_at(w, i) {
-            return false;
-        }
-        if s[i] != w[i] {
-            return false;
-        }
-        i += 1;
+    // The number at a place of the line, read so, with the place where the next field begins. No field begins past 64: the fields before it are short.
+    fn field_at<F: Fn(&[u8]) -> Option<Field>>(
+        &self,
+        at: usize,
+        read: F,
+    ) -> Result<(u32, usize), Refusal>
+        requires near { at ≤ 64 }
+        requires callable { F.IsAlwaysCallable read }
+        requires narrow { (s : _) (f : Field) → F.post read s (Some f) → f.width ≤ 12 }
+        ensures { (f : _) × FnReturnsAt F.Fn read (drop at self.now.text.now) f × (result ≡ placed self.now.number at f) }
+    {
+        let rest = self.text.get(at..).unwrap_or(&[]);
+        let Some(Field { value, width }) = read(rest) else {
+            return Err(Refusal {
+                fault: Fault::BadField,
+                place: self.number,
+            });
+        };
+        Ok((value, at + width + 1))
     }
-    field::ends_at(w, i)
-}
 
-// Whether a line of n fields has k of them, the first of them the word.
-fn is_form(line: &[u8], n: usize, word: &[u8], k: usize) -> bool
-    requires { n ≡ field_count line.now }
-    ensures { result ≡ form (first word.now) k line.now }
-{
-    if n != k {
-        return false;
+    // `cpus M`: 3, then 4.
+    fn cpus_line(&self) -> Result<Said, Refusal>
+        requires { form (bytes "cpus") 2 self.now.text.now ≡ true }
+        ensures { result ≡ cpus_line self.now.number (count_in self.now.text.now 1) }
+    {
+        let (m, _) = self.field_at(5, field::count)?;
+        self.check(rules::in_range(m, Table::MAX_CPUS), Fault::OutOfRange)?;
+        Ok(Said::Cpus(m))
     }
-    same_field(line, word)
-}
 
-// The number that s starts with, read as a field of this kind.
-fn field_as(s: &[u8], kind: FieldKind) -> Field
-    ensures { result ≡ field_as kind s.now }
-{
-    match kind {
-        FieldKind::Count => field::count(s),
-        FieldKind::TimeDown => field::time(s, Rounding::Down),
-        FieldKind::TimeUp => field::time(s, Rounding::Up),
+    // 4, then 19, of a resource's group.
+    #[tactic(auto, unfolding(crate::specs::Line::group_line))]
+    fn group_said(&self, group: u32, k: Resource) -> Result<Said, Refusal>
+        ensures { result ≡ group_line self.now.past self.now.number (reads_as group 0) (reads_as k.0 0) }
+    {
+        let in_range = rules::in_range(group, Table::MAX_GROUP) && rules::in_range(k.0, RESOURCES);
+        self.check(in_range, Fault::OutOfRange)?;
+        self.check(self.past.group.0 < k.0, Fault::GroupNotRising)?;
+        Ok(Said::Group(group, k))
     }
-}
 
-// The number at a place of the line, with the place where the next field begins. No field begins past 64: the fields before it are short.
-fn field_at(line: &[u8], at: usize, kind: FieldKind) -> FieldAt
-    requires { at ≤ 64 }
-    ensures { result ≡ placed at (field_as kind (drop at line.now)) }
-{
-    if line.len() <= at {
-        return FieldAt::NoNumber;
+    // `group G K`: 3, then what its numbers call for.
+    fn group_line(&self) -> Result<Said, Refusal>
+        requires { form (bytes "group") 3 self.now.text.now ≡ true }
+        ensures { result ≡ group_line self.now.past self.now.number (count_in self.now.text.now 1) (count_in self.now.text.now 2) }
+    {
+        let (group, next) = self.field_at(6, field::count)?;
+        let (k, _) = self.field_at(next, field::count)?;
+        self.group_said(group, Resource(k))
     }
-    let Field::Value(v, width) = field_as(&line[at..], kind) else {
-        return FieldAt::NoNumber;
-    };
-    FieldAt::Number(v, at + width + 1)
-}
 
-// 4, of the number of processors.
-fn cpus_said(number: u32, m: u32) -> Said
-    ensures { result ≡ cpus_line number (Value m 0) }
-{
-    if !rules::in_range(m, Table::MAX_CPUS) {
-        return refuse(Fault::OutOfRange, number);
+    // 8, then 4 and 5, of a task.
+    #[tactic(auto, unfolding(crate::specs::Line::task_line))]
+    fn task_said(&self, period: u32, run: u32, deadline: u32) -> Result<Said, Refusal>
+        ensures { result ≡ task_line self.now.past self.now.number (reads_as period 0) (reads_as run 0) (reads_as deadline 0) }
+    {
+        self.check(self.past.tasks < Table::MAX_TASKS, Fault::TooManyTasks)?;
+        rules::times(self.number, period, run, deadline)?;
+        Ok(Said::Task(period, run, deadline))
     }
-    Said::Cpus(m)
-}
 
-// 4, then 19, of a resource's group.
-fn group_said(past: Past, number: u32, group: u32, k: Resource) -> Said
-    ensures { result ≡ group_line past number (Value group 0) (Value k.0 0) }
-{
-    if !rules::in_range(group, Table::MAX_GROUP) {
-        return refuse(Fault::OutOfRange, number);
+    // `task T C D`.
+    fn task_line(&self) -> Result<Said, Refusal>
+        requires { form (bytes "task") 4 self.now.text.now ≡ true }
+        ensures { result ≡ task_line self.now.past self.now.number (time_in Down self.now.text.now 1) (time_in Up self.now.text.now 2) (time_in Down self.now.text.now 3) }
+    {
+        let (period, next) = self.field_at(5, rounded_down)?;
+        let (run, next) = self.field_at(next, rounded_up)?;
+        let (deadline, _) = self.field_at(next, rounded_down)?;
+        self.task_said(period, run, deadline)
     }
-    if !rules::in_range(k.0, RESOURCES) {
-        return refuse(Fault::OutOfRange, number);
-    }
-    if k.0 <= past.group.0 {
-        return refuse(Fault::GroupNotRising, number);
-    }
-    Said::Group(group, k)
-}
 
-// 8, of a task after so many.
-fn room_after(tasks: usize, number: u32) -> Checked
-    ensures { result ≡ unless (ltb tasks max_tasks) TooManyTasks number }
-{
-    if Table::MAX_TASKS <= tasks {
-        return Checked::Refused(Refusal {
-            fault: Fault::TooManyTasks,
-            place: number,
-        });
+    // 4, then 18, of an alpha.
+    #[tactic(auto, unfolding(crate::specs::Line::alpha_line))]
+    fn alpha_said(&self, alpha: u32) -> Result<Said, Refusal>
+        ensures { result ≡ alpha_line self.now.past self.now.number (reads_as alpha 0) }
+    {
+        self.check(1 <= alpha, Fault::OutOfRange)?;
+        rules::alpha(self.number, self.past.alpha, alpha)?;
+        Ok(Said::Alpha(alpha))
     }
-    Checked::Fine
-}
 
-// 8, then 4 and 5, of a task.
-fn task_said(past: Past, number: u32, period: u32, run: u32, deadline: u32) -> Said
-    ensures { result ≡ task_line past number (Value period 0) (Value run 0) (Value deadline 0) }
-{
-    let room = room_after(past.tasks, number);
-    let times = rules::times(number, period, run, deadline);
-    if let Checked::Refused(r) = rules::first_of(room, times) {
-        return Said::Not(r);
+    // `alpha A`.
+    fn alpha_line(&self) -> Result<Said, Refusal>
+        requires { form (bytes "alpha") 2 self.now.text.now ≡ true }
+        ensures { result ≡ alpha_line self.now.past self.now.number (count_in self.now.text.now 1) }
+    {
+        let (alpha, _) = self.field_at(6, field::count)?;
+        self.alpha_said(alpha)
     }
-    Said::Task(period, run, deadline)
-}
 
-// 4, then 18, of an alpha.
-fn alpha_said(past: Past, number: u32, alpha: u32) -> Said
-    ensures { result ≡ alpha_line past number (Value alpha 0) }
-{
-    if alpha < 1 {
-        return refuse(Fault::OutOfRange, number);
+    // 4, 6, then 7, of a pair in use.
+    #[tactic(auto, unfolding(crate::specs::Line::use_line))]
+    fn use_said(&self, k: Resource, p: Pair) -> Result<Said, Refusal>
+        ensures { result ≡ use_line self.now.past self.now.number (reads_as k.0 0) (reads_as p.requests 0) (reads_as p.longest 0) (reads_as p.total 0) }
+    {
+        let in_range = rules::in_range(k.0, RESOURCES) && rules::used_in_range(p);
+        self.check(in_range, Fault::OutOfRange)?;
+        self.check(self.past.last.0 < k.0, Fault::NotRising)?;
+        let sum = u64::from(self.past.sum) + u64::from(p.total);
+        self.check(rules::totals_fit(p, sum, self.past.run), Fault::BadTotals)?;
+        Ok(Said::Use(k, p))
     }
-    if let Checked::Refused(r) = rules::alpha(number, past.alpha, alpha) {
-        return Said::Not(r);
-    }
-    Said::Alpha(alpha)
-}
 
-// 4, 6, then 7, of a pair in use.
-fn use_said(past: Past, number: u32, k: Resource, p: Pair) -> Said
-    ensures { result ≡ use_line past number (Value k.0 0) (Value p.requests 0) (Value p.longest 0) (Value p.total 0) }
-{
-    if !rules::in_range(k.0, RESOURCES) {
-        return refuse(Fault::OutOfRange, number);
+    // `use K N c CT`.
+    fn use_line(&self) -> Result<Said, Refusal>
+        requires { form (bytes "use") 5 self.now.text.now ≡ true }
+        ensures { result ≡ use_line self.now.past self.now.number (count_in self.now.text.now 1) (count_in self.now.text.now 2) (time_in Up self.now.text.now 3) (time_in Up self.now.text.now 4) }
+    {
+        let (k, next) = self.field_at(4, field::count)?;
+        let (requests, next) = self.field_at(next, field::count)?;
+        let (longest, next) = self.field_at(next, rounded_up)?;
+        let (total, _) = self.field_at(next, rounded_up)?;
+        self.use_said(
+            Resource(k),
+            Pair {
+                requests,
+                longest,
+                total,
+            },
+        )
     }
-    if !rules::used_in_range(p) {
-        return refuse(Fault::OutOfRange, number);
+
+    // `cpus` stands on the first line and nowhere else.
+    fn is_cpus(&self) -> bool
+        ensures { result ≡ (form (bytes "cpus") 2 self.now.text.now && eqb self.now.number 1) }
+    {
+        self.is_form(b"cpus", 2) && self.number == 1
     }
-    if k.0 <= past.last.0 {
-        return refuse(Fault::NotRising, number);
+
+    // `group` stands after `cpus` and before any task.
+    fn is_group(&self) -> bool
+        ensures { result ≡ (form (bytes "group") 3 self.now.text.now && (ltb 1 self.now.number && eqb self.now.past.tasks 0)) }
+    {
+        self.is_form(b"group", 3) && 1 < self.number && self.past.tasks == 0
     }
-    if !rules::totals_fit(p, past.sum as u64 + p.total as u64, past.run) {
-        return refuse(Fault::BadTotals, number);
+
+    // `task` stands after `cpus`.
+    fn is_task(&self) -> bool
+        ensures { result ≡ (form (bytes "task") 4 self.now.text.now && ltb 1 self.now.number) }
+    {
+        self.is_form(b"task", 4) && 1 < self.number
     }
-    Said::Use(k, p)
-}
 
-// `cpus M`.
-fn cpus_line(number: u32, line: &[u8]) -> Said
-    requires { form (bytes "cpus") 2 line.now ≡ true }
-    ensures { result ≡ cpus_line number (count_in line.now 1) }
-{
-    let FieldAt::Number(m, _) = field_at(line, 5, FieldKind::Count) else {
-        return refuse(Fault::BadField, number);
-    };
-    cpus_said(number, m)
-}
-
-// `group G K`.
-fn group_line(past: Past, number: u32, line: &[u8]) -> Said
-    requires { form (bytes "group") 3 line.now ≡ true }
-    ensures { result ≡ group_line past number (count_in line.now 1) (count_in line.now 2) }
-{
-    let FieldAt::Number(group, k_at) = field_at(line, 6, FieldKind::Count) else {
-        return refuse(Fault::BadField, number);
-    };
-    let FieldAt::Number(k, _) = field_at(line, k_at, FieldKind::Count) else {
-        return refuse(Fault::BadField, number);
-    };
-    group_said(past, number, group, Resource(k))
-}
-
-// `task T C D`.
-fn task_line(past: Past, number: u32, line: &[u8]) -> Said
-    requires { form (bytes "task") 4 line.now ≡ true }
-    ensures { result ≡ task_line past number (time_in Down line.now 1) (time_in Up line.now 2) (time_in Down line.now 3) }
-{
-    let FieldAt::Number(period, run_at) = field_at(line, 5, FieldKind::TimeDown) else {
-        return refuse(Fault::BadField, number);
-    };
-    let FieldAt::Number(run, deadline_at) = field_at(line, run_at, FieldKind::TimeUp) else {
-        return refuse(Fault::BadField, number);
-    };
-    let FieldAt::Number(deadline, _) = field_at(line, deadline_at, FieldKind::TimeDown) else {
-        return refuse(Fault::BadField, number);
-    };
-    task_said(past, number, period, run, deadline)
-}
-
-// `alpha A`.
-fn alpha_line(past: Past, number: u32, line: &[u8]) -> Said
-    requires { form (bytes "alpha") 2 line.now ≡ true }
-    ensures { result ≡ alpha_line past number (count_in line.now 1) }
-{
-    let FieldAt::Number(alpha, _) = field_at(line, 6, FieldKind::Count) else {
-        return refuse(Fault::BadField, number);
-    };
-    alpha_said(past, number, alpha)
-}
-
-// `use K N c CT`.
-fn use_line(past: Past, number: u32, line: &[u8]) -> Said
-    requires { form (bytes "use") 5 line.now ≡ true }
-    ensures { result ≡ use_line past number (count_in line.now 1) (count_in line.now 2) (time_in Up line.now 3) (time_in Up line.now 4) }
-{
-    let FieldAt::Number(k, requests_at) = field_at(line, 4, FieldKind::Count) else {
-        return refuse(Fault::BadField, number);
-    };
-    let FieldAt::Number(requests, longest_at) = field_at(line, requests_at, FieldKind::Count) else {
-        return refuse(Fault::BadField, number);
-    };
-    let FieldAt::Number(longest, total_at) = field_at(line, longest_at, FieldKind::TimeUp) else {
-        return refuse(Fault::BadField, number);
-    };
-    let FieldAt::Number(total, _) = field_at(line, total_at, FieldKind::TimeUp) else {
-        return refuse(Fault::BadField, number);
-    };
-    use_said(
-        past,
-        number,
-        Resource(k),
-        Pair {
-            requests,
-            longest,
-            total,
-        },
-    )
-}
-
-// `cpus` stands on the first line and nowhere else.
-fn cpus_here(line: &[u8], n: usize, number: u32) -> bool
-    requires { n ≡ field_count line.now }
-    ensures { result ≡ (form (bytes "cpus") 2 line.now && eqb number 1) }
-{
-    if !is_form(line, n, b"cpus", 2) {
-        return false;
+    // `alpha` stands right after its task's line.
+    fn is_alpha(&self) -> bool
+        ensures { result ≡ (form (bytes "alpha") 2 self.now.text.now && self.now.past.fresh) }
+    {
+        self.is_form(b"alpha", 2) && self.past.fresh
     }
-    number == 1
-}
 
-// `group` stands after `cpus` and before any task.
-fn group_here(line: &[u8], n: usize, number: u32, tasks: usize) -> bool
-    requires { n ≡ field_count line.now }
-    ensures { result ≡ (form (bytes "group") 3 line.now && (ltb 1 number && eqb tasks 0)) }
-{
-    if !is_form(line, n, b"group", 3) {
-        return false;
+    // `use` stands after a task.
+    fn is_use(&self) -> bool
+        ensures { result ≡ (form (bytes "use") 5 self.now.text.now && ltb 0 self.now.past.tasks) }
+    {
+        self.is_form(b"use", 5) && 0 < self.past.tasks
     }
-    if number <= 1 {
-        return false;
-    }
-    tasks == 0
-}
-
-fn task_here(line: &[u8], n: usize, number: u32) -> bool
-    requires { n ≡ field_count line.now }
-    ensures { result ≡ (form (bytes "task") 4 line.now && ltb 1 number) }
-{
-    if !is_form(line, n, b"task", 4) {
-        return false;
-    }
-    1 < number
-}
-
-// `alpha` stands right after its task's line.
-fn alpha_here(line: &[u8], n: usize, fresh: bool) -> bool
-    requires { n ≡ field_count line.now }
-    ensures { result ≡ (form (bytes "alpha") 2 line.now && fresh) }
-{
-    if !is_form(line, n, b"alpha", 2) {
-        return false;
-    }
-    fresh
-}
-
-// `use` stands after a task.
-fn use_here(line: &[u8], n: usize, tasks: usize) -> bool
-    requires { n ≡ field_count line.now }
-    ensures { result ≡ (form (bytes "use") 5 line.now && ltb 0 tasks) }
-{
-    if !is_form(line, n, b"use", 5) {
-        return false;
-    }
-    0 < tasks
 }
 
 // What line `number` says, after what the lines before it leave.
-pub fn line_of(past: Past, number: u32, line: &[u8]) -> Said
+#[tactic(auto, unfolding(crate::specs::Line::line_says))]
+pub fn line_of(past: Past, number: u32, line: &[u8]) -> Result<Said, Refusal>
     ensures { result ≡ line_says past number line.now }
 {
-    let n = field_count(line);
-    if cpus_here(line, n, number) {
-        return cpus_line(number, line);
+    let count = field_count(line);
+    let entry = Entry {
+        past,
+        number,
+        text: line,
+        count,
+    };
+    if entry.is_cpus() {
+        entry.cpus_line()
+    } else if entry.is_group() {
+        entry.group_line()
+    } else if entry.is_task() {
+        entry.task_line()
+    } else if entry.is_alpha() {
+        entry.alpha_line()
+    } else if entry.is_use() {
+        entry.use_line()
+    } else {
+        Err(Refusal {
+            fault: Fault::BadForm,
+            place: number,
+        })
     }
-    if group_here(line, n, number, past.tasks) {
-        return group_line(past, number, line);
-    }
-    if task_here(line, n, number) {
-        return task_line(past, number, line);
-    }
-    if alpha_here(line, n, past.fresh) {
-        return alpha_line(past, number, line);
-    }
-    if use_here(line, n, past.tasks) {
-        return use_line(past, number, line);
-    }
-    refuse(Fault::BadForm, number)
 }

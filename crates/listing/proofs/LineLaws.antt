@@ -2,29 +2,25 @@
 -- Assumes nothing.
 use Prim.Native.Nat.{ℕ, suc, ◌+◌, ◌≤◌, ◌<◌}
 use mathlib.Core.Path.{◌≡◌, refl, ap}
-use mathlib.Core.Bool.{Bool, true, false}
+use mathlib.Core.Bool.{Bool, true, false, cond, not}
 use mathlib.Core.List.{List, [], ◌∷◌}
 use native.Mathlib.Omega.{arith}
-use native.Mathlib.Numerals.{add-one}
-use lib.ListN.{length, get_or, take, drop, drop_of_length-le}
-use lib.Seq.{drop-cons}
+use lib.ListN.{length, take, drop}
 use lib.Dec.{eqb}
-use borrow.Author.Tests.{eq-eqb, ne_eqb}
+use Rattle.std.specs.List.{position_or_len}
 use Rattle.basics.specs.Choice.{pick}
 use Rattle.listing.specs.Lines.{onto, lines, ends_in_LF}
 use Rattle.listing.specs.FirstLine.{line}
 
--- ---- the length of a line, by places
+-- ---- the length of a line is the place of its LF
 
-module _ (s : List ℕ) (i : ℕ) where
-  pub line_end : i < length s → get_or s i 0 ≡ 10 → length (line (drop i s)) ≡ 0
-  line_end h e = rw (drop-cons s i 0 h, eq-eqb _ _ e)
-
-  pub line_more : i < length s → (get_or s i 0 ≡ 10 → ⊥) → length (line (drop i s)) ≡ 1 + length (line (drop (i + 1) s))
-  line_more h e = rw (drop-cons s i 0 h, ne_eqb _ _ e, add-one i) (omega arith)
-
-  pub line_none : length s ≤ i → length (line (drop i s)) ≡ 0
-  line_none h = rw (drop_of_length-le s h)
+pub line_position : (s : List ℕ) → position_or_len (λ b. eqb b 10) s ≡ length (line s)
+line_position [] = refl
+line_position (b ∷ s) = go (eqb b 10) (line_position s)
+  where
+    go : (u : Bool) → position_or_len (λ b. eqb b 10) s ≡ length (line s) → cond (not u) (1 + position_or_len (λ b. eqb b 10) s) 0 ≡ length (pick u [] (b ∷ line s))
+    go true e = refl
+    go false e = omega arith
 
 -- ---- the first line and the rest
 

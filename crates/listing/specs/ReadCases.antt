@@ -5,12 +5,12 @@ use Rattle.basics.specs.Text.{bytes}
 use Rattle.table.specs.declared.Table.{Table}
 use Rattle.table.specs.declared.Fault.{Fault}
 use Rattle.table.specs.declared.Fault.TheVariants.{TooLong, BadForm, BadField, OutOfRange, BadTimes, NotRising, BadTotals, TooManyTasks, NoTask, AlphaMissing, AlphaRises, GroupNotRising}
-use Rattle.table.specs.declared.Checked.{Checked}
-use Rattle.table.specs.declared.Checked.TheVariants.{Fine}
+use Rattle.table.specs.Faults.{Checked}
+use Rattle.std.specs.Prelude.{Ok}
 use Rattle.table.specs.Empty.{unused_pair, empty_task}
 use Rattle.table.specs.At.{a_pair, a_task, with_alpha, a_table, with_groups}
 use Rattle.table.specs.Faults.{at}
-use Rattle.table.specs.Answers.{accepted, refused}
+use Rattle.table.specs.Answers.{accepted, refused, answer_of}
 use Rattle.listing.specs.Read.{read_listing, new_task}
 
 pub record Case : Type 0 where
@@ -21,7 +21,7 @@ abbrev bad : String → Fault → ℕ → Case
 bad text fault place = record { text = text; answer = at fault place }
 
 abbrev fine : String → Case
-fine text = record { text = text; answer = Fine }
+fine text = record { text = text; answer = Ok tt }
 
 abbrev pub case_A : String
 case_A = "cpus 2\ntask 10 2.5 10\nuse 1 1 0.5 0.5\ntask 20 4 15\ntask 30 6 30\nuse 1 2 0.75 1.5\n"
@@ -223,7 +223,7 @@ table_G =
 
 abbrev pub CasesHold : Type 0
 CasesHold =
-    (map (λ (c : Case). (read_listing (bytes c.text)).answer) cases ≡ map (λ (c : Case). c.answer) cases)
+    (map (λ (c : Case). answer_of (read_listing (bytes c.text))) cases ≡ map (λ (c : Case). c.answer) cases)
     × (read_listing (bytes case_A) ≡ accepted table_A)
     × (read_listing (bytes "cpus 1\ntask 2.5009 2.499001 2.500001\nuse 1 2 0.4999 0.9995\n") ≡ accepted table_R)
     × (read_listing (bytes (using5 "alpha 3\ntask 10 5 10\nalpha 2\nuse 1 1 1 1\n")) ≡ accepted table_p)
