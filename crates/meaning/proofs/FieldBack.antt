@@ -8,9 +8,8 @@ use native.Mathlib.Omega.{arith}
 use native.Mathlib.Nat.{pow-suc}
 use lib.ListN.{length}
 use lib.Dec.{lit≤}
-use Rattle.field.specs.declared.Field.TheVariants.{Value}
 use Rattle.field.specs.declared.Rounding.{Rounding}
-use Rattle.field.specs.Number.{number, ends, time_field, count_field}
+use Rattle.field.specs.Number.{reads_as, number, ends, time_field, count_field}
 use Rattle.field.specs.Spelling.{Digits, none, one, value_of, DigitsTo, Time, Spells, whole, StatesTime, StatesCount}
 use Rattle.field.specs.Spelling
 use Rattle.put.specs.Text.{digits_of, width, count_text, time_text}
@@ -89,13 +88,13 @@ time_text_lem way us h = record { spells = time_spells us h; rounds = whole_to w
 
 -- ---- and is read back
 
-pub count_back : (n : ℕ) (z : List ℕ) → n ≤ 9_999 → ends z ≡ true → count_field (count_text n ++ z) ≡ Value n (length (count_text n))
+pub count_back : (n : ℕ) (z : List ℕ) → n ≤ 9_999 → ends z ≡ true → count_field (count_text n ++ z) ≡ reads_as n (length (count_text n))
 count_back n z h e =
     let t = count_text_lem n h in
     let f = no_apart_count (count_text n) n t z e in
     states_count (count_text n ++ z) n (rw f t) ∙ rw f
 
-pub time_back : (way : Rounding) (us : ℕ) (z : List ℕ) → us ≤ 99_999_999 → ends z ≡ true → time_field way (time_text us ++ z) ≡ Value us (length (time_text us))
+pub time_back : (way : Rounding) (us : ℕ) (z : List ℕ) → us ≤ 99_999_999 → ends z ≡ true → time_field way (time_text us ++ z) ≡ reads_as us (length (time_text us))
 time_back way us z h e =
     let t = time_text_lem way us h in
     let f = no_apart_time (time_text us) (us * 1000) t.spells z e in

@@ -1,8 +1,7 @@
 -- Figures that obey the rules make a table that obeys them.
 -- Assumes nothing.
-use Prim.Native.Nat.{ℕ, zero, suc, ◌+◌, ◌≤◌, ◌<◌}
+use Prim.Native.Nat.{ℕ, zero, suc, ◌+◌, ◌-◌, ◌≤◌, ◌<◌}
 use mathlib.Core.Path.{◌≡◌, refl, sym, ap, subst, ◌∙◌}
-use mathlib.Core.Bool.{Bool, true, false}
 use mathlib.Core.List.{List, [], ◌∷◌}
 use mathlib.Core.Logic.{◌⊎◌, inl, inr}
 use native.Mathlib.Omega.{arith}
@@ -10,10 +9,10 @@ use native.Mathlib.Nat.{not-suc-le-zero}
 use lib.ListN.{length}
 use native.Mathlib.Decide.{ℕ_discrete}
 use lib.Dec.{eqb, ltb}
-use borrow.Author.Tests.{eqb-true}
+use borrow.Author.Tests.{eq-eqb, ne_eqb}
 use Rattle.basics.specs.Choice.{pick, only}
 use Rattle.basics.specs.Over.{sum_to}
-use Rattle.basics.proofs.SumLaws.{sum_le, sum_add, sum_eq, sum_bound}
+use Rattle.basics.proofs.SumLaws.{sum_le, sum_add, sum_eq, sum_bound, sum_single}
 use Rattle.table.specs.declared.Pair.{Pair}
 use Rattle.table.specs.declared.Task.{Task}
 use Rattle.table.specs.Limits.{max_tasks, max_resources}
@@ -27,50 +26,36 @@ use Rattle.line.specs.Stated.{UseFigures, held_pair}
 use Rattle.meaning.specs.Figures.{TaskFigures, Figures, GoodUses, GoodTaskFigures, GoodAlpha, GoodTasks, alphas_of, GoodFigures, group_for, use_for, pair_for, task_of, task_for, table_of}
 use Rattle.basics.proofs.RowLaws.{row_at}
 use Rattle.meaning.proofs.AlphaLaws.{held_most, alpha_for, counted, falls}
+use Rattle.meaning.proofs.PutRows.{picked}
 use Rattle.meaning.proofs.GroupRows.{group_most}
 
 good_pair : {C last sum : ℕ} {us : List UseFigures} (k : ℕ) → GoodUses C last sum us → (pair_for us k ≡ unused_pair) ⊎ GoodPair (pair_for us k)
 good_pair k GoodUses.no_use = inl refl
-good_pair k (GoodUses.one_use {u = u} {us = us} a b g f r) = go (eqb u.K (suc k)) (good_pair k r)
-  where
-    go : (t : Bool) → (pair_for us k ≡ unused_pair) ⊎ GoodPair (pair_for us k)
-        → let p = held_pair (pick t u (use_for us k)) in (p ≡ unused_pair) ⊎ GoodPair p
-    go true ih = inr g
-    go false ih = ih
+good_pair k (GoodUses.one_use {u = u} {us = us} a b g f r) =
+    picked (λ (v : UseFigures). (held_pair v ≡ unused_pair) ⊎ GoodPair (held_pair v)) (eqb u.K (suc k)) (inr g) (good_pair k r)
 
 -- ---- the sum over the resources is at most the sum of the uses
 
 abbrev total_for : List UseFigures → ℕ → ℕ
 total_for us k = (use_for us k).CT.held
 
--- v, of resource K alone
-abbrev alone : ℕ → ℕ → ℕ → ℕ
-alone K v k = only (eqb K (suc k)) v
-
-alone_sum : (n K v : ℕ) → (n < K → sum_to n (alone K v) ≡ 0) × (sum_to n (alone K v) ≤ v)
-unfolding sum_to
-alone_sum zero K v = (λ h. refl, omega arith)
-alone_sum (suc n) K v = go (eqb K (suc n)) refl (alone_sum n K v)
+total_le : (u w : UseFigures) (k : ℕ) → 1 ≤ u.K → (pick (eqb u.K (suc k)) u w).CT.held ≤ only (eqb (u.K - 1) k) u.CT.held + w.CT.held
+total_le u w k h = go (ℕ_discrete u.K (suc k))
   where
-    go : (t : Bool) → eqb K (suc n) ≡ t → (n < K → sum_to n (alone K v) ≡ 0) × (sum_to n (alone K v) ≤ v)
-        → (suc n < K → sum_to n (alone K v) + only t v ≡ 0) × (sum_to n (alone K v) + only t v ≤ v)
-    go true e ih = let q = eqb-true K (suc n) e in (λ h. absurd (omega arith), omega (arith, ih.0 (omega arith)))
-    go false e ih = (λ h. omega (arith, ih.0 (omega arith)), omega (arith, ih.1))
-
-total_le : (t : Bool) (u w : UseFigures) → (pick t u w).CT.held ≤ only t u.CT.held + w.CT.held
-total_le true u w = omega arith
-total_le false u w = omega arith
+    go : Dec (u.K ≡ suc k) → (pick (eqb u.K (suc k)) u w).CT.held ≤ only (eqb (u.K - 1) k) u.CT.held + w.CT.held
+    go (yes e) = rw (eq-eqb u.K (suc k) e, eq-eqb (u.K - 1) k (omega arith)) (omega arith)
+    go (no n) = rw (ne_eqb u.K (suc k) n) (omega arith)
 
 good_sum : {C last sum : ℕ} {us : List UseFigures} → GoodUses C last sum us → sum ≤ C → sum + sum_to max_resources (total_for us) ≤ C
 good_sum GoodUses.no_use h = omega (arith, sum_bound max_resources 0 (total_for []) (λ k l. omega arith))
 good_sum (GoodUses.one_use {u = u} {us = us} a b g f r) h =
-    let v = u.CT.held in
+    let alone = λ (k : ℕ). only (eqb (u.K - 1) k) u.CT.held in
     omega (
       arith,
       good_sum r f,
-      sum_le max_resources (total_for (u ∷ us)) (λ (k : ℕ). alone u.K v k + total_for us k) (λ k l. total_le (eqb u.K (suc k)) u (use_for us k)),
-      sum_add max_resources (alone u.K v) (total_for us),
-      (alone_sum max_resources u.K v).1,
+      sum_le max_resources (total_for (u ∷ us)) (λ (k : ℕ). alone k + total_for us k) (λ k l. total_le u (use_for us k) k (omega arith)),
+      sum_add max_resources alone (total_for us),
+      sum_single max_resources (u.K - 1) u.CT.held (omega arith),
     )
 
 -- ---- tasks and the table

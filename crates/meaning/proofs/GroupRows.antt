@@ -2,21 +2,19 @@
 -- Assumes nothing.
 use Prim.Native.Nat.{ℕ, suc, ◌≤◌}
 use mathlib.Core.Path.{◌≡◌}
-use mathlib.Core.Bool.{Bool, true, false}
 use mathlib.Core.List.{List}
 use native.Mathlib.Omega.{arith}
 use lib.Dec.{eqb}
-use Rattle.basics.specs.Choice.{pick}
 use Rattle.basics.specs.Over.{row_to}
 use Rattle.table.specs.Limits.{max_resources, max_group}
 use Rattle.table.specs.Empty.{no_groups}
 use Rattle.meaning.specs.Figures.{GroupFigures, GoodGroups, group_for}
-use Rattle.meaning.proofs.PutRows.{Rising, no_entry, one_entry, put, row_stored}
+use Rattle.meaning.proofs.PutRows.{picked, Rising, no_entry, one_entry, put, row_stored}
 
-abbrev resource_of : GroupFigures → ℕ
+abbrev pub resource_of : GroupFigures → ℕ
 resource_of x = x.K
 
-abbrev group_of : GroupFigures → ℕ
+abbrev pub group_of : GroupFigures → ℕ
 group_of x = x.G
 
 abbrev pub put_groups : List ℕ → List GroupFigures → List ℕ
@@ -31,8 +29,4 @@ groups_stored g = row_stored resource_of group_of 0 (rising g)
 
 pub group_most : {last : ℕ} {xs : List GroupFigures} (k : ℕ) → GoodGroups last xs → group_for xs k ≤ max_group
 group_most k GoodGroups.no_group = omega arith
-group_most k (GoodGroups.one_group {x = x} {xs = xs} i j a b r) = go (eqb x.K (suc k)) (group_most k r)
-  where
-    go : (t : Bool) → group_for xs k ≤ max_group → pick t x.G (group_for xs k) ≤ max_group
-    go true h = j
-    go false h = h
+group_most k (GoodGroups.one_group {x = x} {xs = xs} i j a b r) = picked (λ (G : ℕ). G ≤ max_group) (eqb x.K (suc k)) j (group_most k r)

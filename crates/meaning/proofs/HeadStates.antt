@@ -1,14 +1,16 @@
 -- How far the lines after `cpus` state figures: groups, and then tasks.
 -- Assumes nothing.
 use Prim.Native.Nat.{ℕ, ◌+◌, ◌≤◌, ◌<◌}
-use mathlib.Core.Path.{◌≡◌, refl, sym, ◌∙◌}
-use mathlib.Core.Bool.{true, false, true≢false}
+use mathlib.Core.Path.{◌≡◌, refl, ◌∙◌}
+use mathlib.Core.Bool.{true, false}
 use mathlib.Core.List.{List, [], ◌∷◌, ◌++◌, append_assoc}
 use native.Mathlib.Omega.{arith}
 use native.Mathlib.Nat.{add-zero}
 use lib.ListN.{length}
 use Rattle.basics.specs.Text.{bytes, line_of}
+use Rattle.std.specs.Prelude.{Result}
 use Rattle.table.specs.declared.Resource.{Resource}
+use Rattle.table.specs.declared.Refusal.{Refusal}
 use Rattle.table.specs.Limits.{max_tasks}
 use Rattle.line.specs.declared.Past.{Past}
 use Rattle.line.specs.declared.Said.{Said}
@@ -19,10 +21,9 @@ use Rattle.line.proofs.WordLaws.{fields_from, form_line}
 use Rattle.line.proofs.StatedLaws.{others_alone, count_in_lem}
 use Rattle.line.proofs.LineRules.{GroupRules, Line, is_cpus, is_group, is_task, is_alpha, is_use, is_not}
 use Rattle.line.proofs.Says.{line_is}
-use Rattle.listing.specs.Lines.{lines}
 use Rattle.listing.specs.Read.{after_task, past_after}
 use Rattle.meaning.specs.Figures.{no_alpha, GroupFigures, StatesGroups, by_group_line, GoodGroups}
-use Rattle.meaning.proofs.SplitLaws.{Start, start_of, no_line_of, word_text_lem}
+use Rattle.meaning.proofs.SplitLaws.{Start, Lines, no_line, a_line, word_text_lem}
 use Rattle.meaning.proofs.StatesRead.{past_groups}
 use Rattle.meaning.proofs.ReadStates.{at_end, at_line, Stating, stating_none, task_states, states_to}
 
@@ -40,7 +41,7 @@ module _ (past : Past) (n : ℕ) {s : List ℕ} where
   no_groups : Stating past n s no_alpha → Head past n s
   no_groups x = record { groups = []; first = []; rest = s; text = refl; states = StatesGroups.no_group; good = GoodGroups.no_group; stating = rw (add-zero n) x }
 
-  group_states : {l : List ℕ} {ls : List (List ℕ)} {G : ℕ} {K : Resource} (a : Start s l ls) → form (bytes "group") 3 l ≡ true
+  group_states : {l : List ℕ} {G : ℕ} {K : Resource} (a : Start s l) → form (bytes "group") 3 l ≡ true
       → GroupRules past (count_in l 1) (count_in l 2) G K → Head (past_after past (Group G K)) (n + 1) a.rest → Head past n s
   unfolding past_after
   group_states {l} {G = G} {K} a f r x =
@@ -57,22 +58,19 @@ module _ (past : Past) (n : ℕ) {s : List ℕ} where
         stating = rw (← e) x.stating;
       }
 
-pub heads_to : (ls : List (List ℕ)) (s : List ℕ) (past : Past) (n : ℕ) → lines s ≡ ls → 1 < n → past.tasks ≡ 0 → past.fresh ≡ false → Head past n s
+pub heads_to : {s : List ℕ} → Lines s → (past : Past) (n : ℕ) → 1 < n → past.tasks ≡ 0 → past.fresh ≡ false → Head past n s
 unfolding past_after
-heads_to [] s past n e h z f = no_groups past n (stating_none past n (omega arith) (at_end (no_line_of s e)))
-heads_to (l ∷ ls) s past n e h z f = go (line_says past n l) refl (line_is past n l) (λ past j k. heads_to ls a.rest past (n + 1) a.left (omega arith) j k)
+heads_to (no_line w) past n h z f = no_groups past n (stating_none past n (omega arith) (at_end w))
+heads_to {s} (a_line {l} a rest) past n h z f = go (line_says past n l) refl (line_is past n l) (λ past j k. heads_to rest past (n + 1) (omega arith) j k)
   where
-    a : Start s l ls
-    a = start_of s l ls e
-
     m : past.tasks ≤ max_tasks
     m = omega arith
 
-    go : (x : Said) → line_says past n l ≡ x → Line past n l x → ((past : Past) → past.tasks ≡ 0 → past.fresh ≡ false → Head past (n + 1) a.rest) → Head past n s
+    go : (x : Result Said Refusal) → line_says past n l ≡ x → Line past n l x → ((past : Past) → past.tasks ≡ 0 → past.fresh ≡ false → Head past (n + 1) a.rest) → Head past n s
     go _ d (is_cpus i e r) ih = absurd (omega arith)
     go _ d (is_group {G} {K} i e j r) ih = group_states past n a i r (ih (past_after past (Group G K)) z f)
     go _ d (is_task {C = C} i e r) ih =
-        no_groups past n (task_states past n m a i r (states_to ls a.rest (after_task past C) (n + 1) a.left (omega arith) (omega arith) (omega (arith, r.room))))
-    go _ d (is_alpha i e r) ih = absurd (true≢false (sym e ∙ f))
+        no_groups past n (task_states past n m a i r (states_to rest (after_task past C) (n + 1) (omega arith) (omega arith) (omega (arith, r.room))))
+    go _ d (is_alpha i e r) ih = absurd cc
     go _ d (is_use i e r) ih = absurd (omega arith)
-    go _ d (is_not r) ih = no_groups past n (stating_none past n m (at_line l a.rest r a.text a.clean d))
+    go _ d (is_not r) ih = no_groups past n (stating_none past n m (at_line a d))

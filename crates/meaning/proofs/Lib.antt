@@ -1,6 +1,6 @@
 --   SplitLaws     a text by its first line, and the line of a word and fields
 --   SaysLaws      a line of words, with figures that obey the rules, says them
---   PutRows       a row, stored entry by entry
+--   PutRows       a row, stored entry by entry, and entries that hold a row
 --   PairRows      the pairs of a task, stored use by use
 --   GroupRows     the groups, stored line by line
 --   TableLaws     the tasks and the table, stored line by line

@@ -10,11 +10,9 @@ use lib.Dec.{leb, ltb}
 use borrow.Author.Tests.{le-leb, ltb-true, lt-ltb}
 use Rattle.basics.specs.Choice.{pick}
 use Rattle.table.specs.declared.Table.{Table}
-use Rattle.table.specs.declared.Refusal.{Refusal}
 use Rattle.table.specs.declared.Resource.{Resource}
 use Rattle.table.specs.declared.Fault.TheVariants.{TooLong, BadForm, NoTask, AlphaMissing}
-use Rattle.table.specs.declared.Checked.TheVariants.{Fine, Refused}
-use Rattle.table.specs.declared.Reading.{Reading}
+use Rattle.table.specs.Answers.{table_from}
 use Rattle.table.specs.Limits.{max_listing}
 use Rattle.table.specs.Empty.{empty_table}
 use Rattle.table.specs.Answers.{accepted, refused}
@@ -36,12 +34,6 @@ use Rattle.meaning.proofs.UpTo.{StatesUpTo, stops_first, stops_later, states_up_
 
 -- ---- correct
 
-refused_not : {r : Refusal} {x : Reading} {u : Table} → x.answer ≡ Refused r → x ≡ accepted u → ⊥
-refused_not {r} d e =
-    let f : Refused r ≡ Fine = sym d ∙ ap (λ (y : Reading). y.answer) e in
-    let z : ◌≡◌ {A = ℕ} 0 1 = cc in
-    omega arith
-
 -- what `Correct` says of a listing that is accepted with t
 abbrev Right : List ℕ → Table → Type 0
 Right s t = (f : Figures) × StatesFigures s f × GoodFigures f × (t ≡ table_of f)
@@ -61,11 +53,11 @@ end_is {t} {u} past n no_byte q = go (ltb 1 n) refl (ltb 0 past.tasks) refl (all
     go : (l : Bool) → ltb 1 n ≡ l → (b : Bool) → ltb 0 past.tasks ≡ b → (d : Bool) → all_or_none past.alphas past.tasks ≡ d
         → pick l (pick b (pick d (accepted t) (refused AlphaMissing 0)) (refused NoTask 2)) (refused BadForm n) ≡ accepted u → Ended past n [] t u
     go true e true f true g q =
-        record { all = refl; lines = ltb-true 1 n e; some = ltb-true 0 past.tasks f; alphas = g; table = sym (ap (λ (y : Reading). y.table) q) }
-    go true e true f false g q = absurd (refused_not refl q)
-    go true e false f d g q = absurd (refused_not refl q)
-    go false e b f d g q = absurd (refused_not refl q)
-end_is past n (one_byte m r) q = absurd (refused_not refl (rw (open_end (one_byte m r) (omega arith) true) at q))
+        record { all = refl; lines = ltb-true 1 n e; some = ltb-true 0 past.tasks f; alphas = g; table = sym (ap table_from q) }
+    go true e true f false g q = absurd cc
+    go true e false f d g q = absurd cc
+    go false e b f d g q = absurd cc
+end_is past n (one_byte m r) q = absurd (cc (rw (open_end (one_byte m r) (omega arith) true) at q))
 
 -- what tasks leave says how many they are, and how many have an alpha
 after_counts : (K : Resource) (xs : List TaskFigures) → ((left_after K xs).tasks ≡ length xs) × ((left_after K xs).alphas ≡ alphas_of xs)
@@ -80,7 +72,7 @@ text_right s t q = go (states_up_to s)
   where
     first : Stops no_lines 1 s → Right s t
     first (at_end w) = absurd (omega (arith, (end_is no_lines 1 w (sym (stop_end empty_table no_lines 1 w) ∙ q)).lines))
-    first (at_line l rest r e w d) = absurd (refused_not (stop_line empty_table no_lines 1 rest r w d) (rw e at q))
+    first (at_line a d) = absurd (cc (stop_line empty_table no_lines 1 a d))
 
     later : (before left : List ℕ) (f : Figures) → s ≡ before ++ left → StatesFigures before f → GoodSoFar f → Stops (left_by f) (next_line f) left
         → read_text (table_of f) (left_by f) (next_line f) left ≡ accepted t → Right s t
@@ -92,7 +84,7 @@ text_right s t q = go (states_up_to s)
           record { so_far = g; tasks_least = rw n.0 at r.some; alphas = (all_or_none_is _ _).0 (rw (n.0, n.1) at r.alphas) },
           r.table,
         )
-    later before left f e states g (at_line l rest r d w x) q = absurd (refused_not (stop_line (table_of f) _ _ rest r w x) (rw d at q))
+    later before left f e states g (at_line a d) q = absurd (cc (stop_line (table_of f) _ _ a d))
 
     go : StatesUpTo s → Right s t
     go (stops_first x) = first x
@@ -104,7 +96,7 @@ correct s t q = go (leb (length s) max_listing) q
   where
     go : (b : Bool) → pick b (read_text empty_table no_lines 1 s) (refused TooLong 0) ≡ accepted t → Right s t
     go true q = text_right s t q
-    go false q = absurd (refused_not refl q)
+    go false q = absurd cc
 
 -- ---- complete
 

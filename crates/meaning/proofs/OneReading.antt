@@ -52,11 +52,11 @@ task_same a b c d e = λ j. record { T = a j; C = b j; D = c j; alpha = d j; use
 abbrev first_byte : List ℕ → ℕ
 first_byte s = get_or s 0 0
 
--- a text that does not begin as a `use` line does
-abbrev NoUse : List ℕ → Type 0
-NoUse s = first_byte s ≡ 117 → ⊥
+-- a text that does not begin as a line of this word does
+abbrev NoLine : String → List ℕ → Type 0
+NoLine word s = first_byte s ≡ first_byte (bytes word) → ⊥
 
-uses_one : {s t : List ℕ} {us vs : List UseFigures} {rest after : List ℕ} → StatesUses s us → StatesUses t vs → NoUse rest → NoUse after
+uses_one : {s t : List ℕ} {us vs : List UseFigures} {rest after : List ℕ} → StatesUses s us → StatesUses t vs → NoLine "use" rest → NoLine "use" after
     → s ++ rest ≡ t ++ after → One us vs rest after
 uses_one StatesUses.no_use StatesUses.no_use p q e = record { same = refl; left = e }
 uses_one StatesUses.no_use (by_use_line a r) p q e = absurd (p (ap first_byte e))
@@ -71,11 +71,7 @@ uses_one {rest = rest} {after} (by_use_line {k} {n} {c} {ct} {rest = z} a r) (by
 
 -- ---- the `alpha` line of a task, up to what follows it
 
--- a text that does not begin as an `alpha` line does
-abbrev NoAlphaLine : List ℕ → Type 0
-NoAlphaLine s = first_byte s ≡ 97 → ⊥
-
-alpha_one : {s t : List ℕ} {a b : AlphaFigure} {rest after : List ℕ} → StatesAlpha s a → StatesAlpha t b → NoAlphaLine rest → NoAlphaLine after
+alpha_one : {s t : List ℕ} {a b : AlphaFigure} {rest after : List ℕ} → StatesAlpha s a → StatesAlpha t b → NoLine "alpha" rest → NoLine "alpha" after
     → s ++ rest ≡ t ++ after → One a b rest after
 alpha_one no_alpha_line no_alpha_line p q e = record { same = refl; left = e }
 alpha_one no_alpha_line (by_alpha_line c) p q e = absurd (p (ap first_byte e))
@@ -84,19 +80,16 @@ alpha_one (by_alpha_line c) (by_alpha_line d) p q e =
     let o = one_line "alpha" alpha_word (more (count_field_lem c) none) (more (count_field_lem d) none) e in
     record { same = ap alpha_of (count_one (cc o.same) c d); left = o.left }
 
-uses_no_alpha : {s : List ℕ} {us : List UseFigures} (rest : List ℕ) → StatesUses s us → NoAlphaLine rest → NoAlphaLine (s ++ rest)
+uses_no_alpha : {s : List ℕ} {us : List UseFigures} (rest : List ℕ) → StatesUses s us → NoLine "alpha" rest → NoLine "alpha" (s ++ rest)
 uses_no_alpha rest StatesUses.no_use n h = n h
 uses_no_alpha rest (by_use_line a r) n h = omega arith
 
 -- ---- the tasks
 
-tasks_no_use : {s : List ℕ} {xs : List TaskFigures} → StatesTasks s xs → NoUse s
-tasks_no_use StatesTasks.no_tasks h = omega arith
-tasks_no_use (by_task_line a b p r) h = omega arith
-
-tasks_no_alpha : {s : List ℕ} {xs : List TaskFigures} → StatesTasks s xs → NoAlphaLine s
-tasks_no_alpha StatesTasks.no_tasks h = omega arith
-tasks_no_alpha (by_task_line a b p r) h = omega arith
+-- tasks begin as no line before them or after a task line does
+tasks_begin : {s : List ℕ} {xs : List TaskFigures} → StatesTasks s xs → NoLine "group" s × NoLine "alpha" s × NoLine "use" s
+tasks_begin StatesTasks.no_tasks = (λ h. omega arith, λ h. omega arith, λ h. omega arith)
+tasks_begin (by_task_line a b p r) = (λ h. omega arith, λ h. omega arith, λ h. omega arith)
 
 tasks_one : {s t : List ℕ} {xs ys : List TaskFigures} → StatesTasks s xs → StatesTasks t ys → s ≡ t → xs ≡ ys
 tasks_one StatesTasks.no_tasks StatesTasks.no_tasks e = refl
@@ -104,22 +97,14 @@ tasks_one StatesTasks.no_tasks (by_task_line a b p r) e = absurd (omega (arith, 
 tasks_one (by_task_line a b p r) StatesTasks.no_tasks e = absurd (omega (arith, ap first_byte e))
 tasks_one (by_task_line {rest = z} a b p r) (by_task_line {rest = z'} a' b' p' r') e =
     let o = one_line "task" task_word (task_fields a) (task_fields a') e in
-    let v = alpha_one b b' (uses_no_alpha z p (tasks_no_alpha r)) (uses_no_alpha z' p' (tasks_no_alpha r')) o.left in
-    let u = uses_one p p' (tasks_no_use r) (tasks_no_use r') v.left in
+    let v = alpha_one b b' (uses_no_alpha z p (tasks_begin r).1) (uses_no_alpha z' p' (tasks_begin r').1) o.left in
+    let u = uses_one p p' (tasks_begin r).2 (tasks_begin r').2 v.left in
     let x = task_same (time_one (cc o.same) a.period a'.period) (time_one (cc o.same) a.run a'.run) (time_one (cc o.same) a.deadline a'.deadline) v.same u.same in
     cc (x, tasks_one r r' u.left)
 
 -- ---- the `group` lines, up to the tasks
 
--- a text that does not begin as a `group` line does
-abbrev NoGroupLine : List ℕ → Type 0
-NoGroupLine s = first_byte s ≡ 103 → ⊥
-
-tasks_no_group : {s : List ℕ} {xs : List TaskFigures} → StatesTasks s xs → NoGroupLine s
-tasks_no_group StatesTasks.no_tasks h = omega arith
-tasks_no_group (by_task_line a b p r) h = omega arith
-
-groups_one : {s t : List ℕ} {xs ys : List GroupFigures} {rest after : List ℕ} → StatesGroups s xs → StatesGroups t ys → NoGroupLine rest → NoGroupLine after
+groups_one : {s t : List ℕ} {xs ys : List GroupFigures} {rest after : List ℕ} → StatesGroups s xs → StatesGroups t ys → NoLine "group" rest → NoLine "group" after
     → s ++ rest ≡ t ++ after → One xs ys rest after
 groups_one StatesGroups.no_group StatesGroups.no_group p q e = record { same = refl; left = e }
 groups_one StatesGroups.no_group (by_group_line a r) p q e = absurd (p (ap first_byte e))
@@ -139,7 +124,7 @@ figures_one : {s t : List ℕ} {f g : Figures} → StatesFigures s f → StatesF
 figures_one {f = f} {g} (by_cpus_line a b r) (by_cpus_line a' b' r') e =
     let o = one_line "cpus" cpus_word (more (count_field_lem a) none) (more (count_field_lem a') none) e in
     let c : f.M ≡ g.M = count_one (cc o.same) a a' in
-    let i = groups_one b b' (tasks_no_group r) (tasks_no_group r') o.left in
+    let i = groups_one b b' (tasks_begin r).0 (tasks_begin r').0 o.left in
     let h = i.same in
     let t = tasks_one r r' i.left in
     λ j. record { M = c j; groups = h j; tasks = t j }

@@ -16,7 +16,7 @@ use Rattle.line.specs.Stated.{UseFigures, held_pair}
 use Rattle.meaning.specs.Figures.{GoodUses, use_for, pair_for}
 use Rattle.meaning.proofs.PutRows.{Rising, no_entry, one_entry, put, entry_for, row_stored}
 
-abbrev resource_of : UseFigures → ℕ
+abbrev pub resource_of : UseFigures → ℕ
 resource_of u = u.K
 
 abbrev pub put_pairs : List Pair → List UseFigures → List Pair
@@ -26,7 +26,7 @@ rising : {C last sum : ℕ} {us : List UseFigures} → GoodUses C last sum us �
 rising GoodUses.no_use = no_entry
 rising (GoodUses.one_use {u = u} a b g f r) = one_entry {x = u} a b (rising r)
 
-pair_for_lem : (us : List UseFigures) (k : ℕ) → entry_for resource_of held_pair unused_pair us k ≡ pair_for us k
+pub pair_for_lem : (us : List UseFigures) (k : ℕ) → entry_for resource_of held_pair unused_pair us k ≡ pair_for us k
 pair_for_lem [] k = refl
 pair_for_lem (u ∷ us) k = rw (pair_for_lem us k) (go (eqb u.K (suc k)))
   where

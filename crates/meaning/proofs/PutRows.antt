@@ -1,7 +1,8 @@
 -- A row, stored entry by entry at K - 1, with K rising: it holds the entry of each K, and nothing where no entry has it.
 -- Assumes nothing.
 use Prim.Native.Nat.{ℕ, suc, ◌-◌, ◌≤◌, ◌<◌}
-use mathlib.Core.Path.{◌≡◌, refl, ap, ◌∙◌}
+use mathlib.Core.Path.{◌≡◌, refl, sym, ap, ◌∙◌}
+use mathlib.Core.Bool.{Bool, true, false}
 use mathlib.Core.List.{List, [], ◌∷◌}
 use native.Mathlib.Omega.{arith}
 use native.Mathlib.Decide.{ℕ_discrete}
@@ -13,6 +14,11 @@ use Rattle.basics.specs.Choice.{pick}
 use Rattle.basics.specs.Over.{row_to}
 use Rattle.basics.proofs.RowLaws.{row_is}
 use Rattle.table.specs.Limits.{max_resources}
+
+-- what holds of both holds of the one that is chosen
+pub picked : {A : Type 0} (P : A → Type 0) (b : Bool) {x y : A} → P x → P y → P (pick b x y)
+picked P true p q = p
+picked P false p q = q
 
 module _ {F A : Type 0} (K : F → ℕ) (entry : F → A) (nothing : A) where
   -- K rises, from above `last` on
@@ -59,3 +65,28 @@ module _ {F A : Type 0} (K : F → ℕ) (entry : F → A) (nothing : A) where
   row_stored {xs} g =
       row_is max_resources (entry_for xs) nothing (put (replicate max_resources nothing) xs) (put_length_reads (replicate max_resources nothing) xs)
       (λ k h. put_at_lem (replicate max_resources nothing) k g refl (get_or-replicate max_resources k nothing nothing h))
+
+  -- xs hold what the row g has from k on, and nothing below
+  pub record Holds (k : ℕ) (xs : List F) (g : ℕ → A) : Type 0 where
+    pub low : (j : ℕ) → j < k → entry_for xs j ≡ nothing
+    pub at : (j : ℕ) → k ≤ j → j < max_resources → entry_for xs j ≡ g j
+
+  pub holds_none : (g : ℕ → A) → Holds max_resources [] g
+  holds_none g = record { low = λ j h. refl; at = λ j a b. absurd (omega arith) }
+
+  module _ {k : ℕ} {xs : List F} {g : ℕ → A} (r : Holds (suc k) xs g) where
+    -- where the row has nothing at k
+    pub holds_skip : g k ≡ nothing → Holds k xs g
+    holds_skip e = record { low = λ j h. r.low j (omega arith); at = λ j a b. go j a b (ℕ_discrete k j) }
+      where
+        go : (j : ℕ) → k ≤ j → j < max_resources → Dec (k ≡ j) → entry_for xs j ≡ g j
+        go j a b (yes q) = r.low j (omega arith) ∙ sym (rw q at e)
+        go j a b (no q) = r.at j (omega arith) b
+
+    pub holds_more : (x : F) → K x ≡ suc k → entry x ≡ g k → Holds k (x ∷ xs) g
+    holds_more x q e =
+        record { low = λ j h. rw (ne_eqb (K x) (suc j) (λ z. omega arith)) (r.low j (omega arith)); at = λ j a b. go j a b (ℕ_discrete k j) }
+      where
+        go : (j : ℕ) → k ≤ j → j < max_resources → Dec (k ≡ j) → entry_for (x ∷ xs) j ≡ g j
+        go j a b (yes z) = rw (eq-eqb (K x) (suc j) (omega arith)) (e ∙ ap g z)
+        go j a b (no z) = rw (ne_eqb (K x) (suc j) (λ y. omega arith)) (r.at j (omega arith) b)

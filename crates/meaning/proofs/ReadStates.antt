@@ -1,8 +1,8 @@
 -- How far lines after a task's state figures: of every text a first part does, after what the lines before it left, and the reading stops behind it.
 -- Assumes nothing.
 use Prim.Native.Nat.{ℕ, ◌+◌, ◌≤◌, ◌<◌}
-use mathlib.Core.Path.{◌≡◌, refl, sym, ap, ◌∙◌}
-use mathlib.Core.Bool.{true, false, true≢false}
+use mathlib.Core.Path.{◌≡◌, refl, ap, ◌∙◌}
+use mathlib.Core.Bool.{true, false}
 use mathlib.Core.List.{List, [], ◌∷◌, ◌++◌, append_assoc}
 use native.Mathlib.Omega.{arith}
 use native.Mathlib.Nat.{add-zero}
@@ -11,12 +11,13 @@ use Rattle.basics.specs.Text.{bytes, line_of}
 use Rattle.table.specs.declared.Pair.{Pair}
 use Rattle.table.specs.declared.Resource.{Resource}
 use Rattle.table.specs.declared.Refusal.{Refusal}
+use Rattle.std.specs.Prelude.{Result, Err}
 use Rattle.table.specs.Limits.{max_tasks}
 use Rattle.table.proofs.RuleFacts.{may_follow_is}
 use Rattle.field.specs.declared.Rounding.TheVariants.{Down, Up}
 use Rattle.line.specs.declared.Past.{Past}
 use Rattle.line.specs.declared.Said.{Said}
-use Rattle.line.specs.declared.Said.TheVariants.{Alpha, Use, Not}
+use Rattle.line.specs.declared.Said.TheVariants.{Alpha, Use}
 use Rattle.line.specs.Fields.{others, form}
 use Rattle.line.specs.Line.{count_in, time_in, line_says}
 use Rattle.line.specs.Stated.{Without, UseFigures}
@@ -24,17 +25,16 @@ use Rattle.line.proofs.WordLaws.{fields_from, form_line}
 use Rattle.line.proofs.StatedLaws.{others_alone, time_of, count_in_lem, time_in_lem}
 use Rattle.line.proofs.LineRules.{TaskRules, AlphaRules, UseRules, Line, is_cpus, is_group, is_task, is_alpha, is_use, is_not}
 use Rattle.line.proofs.Says.{line_is}
-use Rattle.listing.specs.Lines.{lines}
 use Rattle.listing.specs.Read.{after_task, past_after}
 use Rattle.meaning.specs.Figures.{AlphaFigure, no_alpha, alpha_of, TaskFigures, StatesAlpha, no_alpha_line, by_alpha_line, StatesUses, by_use_line, StatesTasks, by_task_line, GoodUses, GoodAlpha, last_with, GoodTasks, alpha_lines}
 use Rattle.meaning.specs.Refusals.{line_count}
-use Rattle.meaning.proofs.SplitLaws.{Start, start_of, no_line_of, word_text_lem}
+use Rattle.meaning.proofs.SplitLaws.{Start, Lines, no_line, a_line, word_text_lem}
 use Rattle.meaning.proofs.StatesRead.{past_alpha, past_uses, past_tasks, task_left}
 
 -- where the reading stops: no line that ends is left, or the next one is refused
 pub data Stops (past : Past) (n : ℕ) (s : List ℕ) : Type 0 where
   at_end : Without 10 s → Stops past n s
-  at_line : (l rest : List ℕ) (r : Refusal) → s ≡ l ++ (10 ∷ rest) → Without 10 l → line_says past n l ≡ Not r → Stops past n s
+  at_line : {l : List ℕ} {r : Refusal} → Start s l → line_says past n l ≡ Err r → Stops past n s
 
 -- the text s, from line n on: the alpha and the uses of the last task, tasks, and what is left where the reading stops
 pub record Stating (past : Past) (n : ℕ) (s : List ℕ) (alpha : AlphaFigure) : Type 0 where
@@ -95,7 +95,7 @@ module _ (past : Past) (n : ℕ) {s : List ℕ} (m : past.tasks ≤ max_tasks) w
         stops = rw (add-zero n) x;
       }
 
-  pub task_states : {l : List ℕ} {ls : List (List ℕ)} {T C D : ℕ} (a : Start s l ls) → form (bytes "task") 4 l ≡ true
+  pub task_states : {l : List ℕ} {T C D : ℕ} (a : Start s l) → form (bytes "task") 4 l ≡ true
       → TaskRules past (time_in Down l 1) (time_in Up l 2) (time_in Down l 3) T C D → StatingAny (after_task past C) (n + 1) a.rest → Stating past n s no_alpha
   task_states {l} {T = T} {C} {D} a f r z =
       let x = z.stating in
@@ -126,7 +126,7 @@ module _ (past : Past) (n : ℕ) {s : List ℕ} (m : past.tasks ≤ max_tasks) w
         stops = let q = x.stops in rw (← e) (rw (task_left past y) at q);
       }
 
-  alpha_states : {l : List ℕ} {ls : List (List ℕ)} {A : ℕ} (a : Start s l ls) → form (bytes "alpha") 2 l ≡ true
+  alpha_states : {l : List ℕ} {A : ℕ} (a : Start s l) → form (bytes "alpha") 2 l ≡ true
       → AlphaRules past (count_in l 1) A → Stating (past_after past (Alpha A)) (n + 1) a.rest no_alpha → Stating past n s (alpha_of A)
   unfolding past_after
   alpha_states {l} {A = A} a f r x =
@@ -150,7 +150,7 @@ module _ (past : Past) (n : ℕ) {s : List ℕ} (m : past.tasks ≤ max_tasks) w
         stops = rw (← e) x.stops;
       }
 
-  use_states : {l : List ℕ} {ls : List (List ℕ)} {K : Resource} {p : Pair} (a : Start s l ls) → form (bytes "use") 5 l ≡ true
+  use_states : {l : List ℕ} {K : Resource} {p : Pair} (a : Start s l) → form (bytes "use") 5 l ≡ true
       → UseRules past (count_in l 1) (count_in l 2) (time_in Up l 3) (time_in Up l 4) K p
       → Stating (past_after past (Use K p)) (n + 1) a.rest no_alpha → Stating past n s no_alpha
   unfolding past_after
@@ -181,15 +181,12 @@ module _ (past : Past) (n : ℕ) {s : List ℕ} (m : past.tasks ≤ max_tasks) w
       }
 
 -- after a task
-pub states_to : (ls : List (List ℕ)) (s : List ℕ) (past : Past) (n : ℕ) → lines s ≡ ls → 1 < n → 0 < past.tasks → past.tasks ≤ max_tasks → StatingAny past n s
+pub states_to : {s : List ℕ} → Lines s → (past : Past) (n : ℕ) → 1 < n → 0 < past.tasks → past.tasks ≤ max_tasks → StatingAny past n s
 unfolding past_after
-states_to [] s past n e h some m = any (stating_none past n m (at_end (no_line_of s e)))
-states_to (l ∷ ls) s past n e h some m = go (line_says past n l) refl (line_is past n l) (λ past j k. states_to ls a.rest past (n + 1) a.left (omega arith) j k)
+states_to (no_line w) past n h some m = any (stating_none past n m (at_end w))
+states_to {s} (a_line {l} a rest) past n h some m = go (line_says past n l) refl (line_is past n l) (λ past j k. states_to rest past (n + 1) (omega arith) j k)
   where
-    a : Start s l ls
-    a = start_of s l ls e
-
-    go : (x : Said) → line_says past n l ≡ x → Line past n l x → ((past : Past) → 0 < past.tasks → past.tasks ≤ max_tasks → StatingAny past (n + 1) a.rest) → StatingAny past n s
+    go : (x : Result Said Refusal) → line_says past n l ≡ x → Line past n l x → ((past : Past) → 0 < past.tasks → past.tasks ≤ max_tasks → StatingAny past (n + 1) a.rest) → StatingAny past n s
     go _ d (is_cpus f e r) ih = absurd (omega arith)
     go _ d (is_group f h z r) ih = absurd (omega arith)
     go _ d (is_task {C = C} f e r) ih = any (task_states past n m a f r (ih (after_task past C) (omega arith) (omega (arith, r.room))))
@@ -197,7 +194,7 @@ states_to (l ∷ ls) s past n e h some m = go (line_says past n l) refl (line_is
         record {
           alpha = alpha_of A;
           stating = alpha_states past n m a f r (without refl (ih (past_after past (Alpha A)) some m));
-          none = λ q. absurd (true≢false (sym e ∙ q));
+          none = λ q. absurd cc;
         }
     go _ d (is_use {K} {p} f e r) ih = any (use_states past n m a f r (without refl (ih (past_after past (Use K p)) some m)))
-    go _ d (is_not r) ih = any (stating_none past n m (at_line l a.rest r a.text a.clean d))
+    go _ d (is_not r) ih = any (stating_none past n m (at_line a d))

@@ -2,12 +2,10 @@
 -- Assumes nothing.
 use Prim.Native.Nat.{ℕ, zero, suc, ◌≤◌, ◌<◌}
 use mathlib.Core.Path.{◌≡◌, refl, ap, ◌∙◌}
-use mathlib.Core.Bool.{Bool, true, false}
 use mathlib.Core.List.{List, [], ◌∷◌}
 use native.Mathlib.Omega.{arith}
 use lib.ListN.{length, get_or}
 use lib.Dec.{eqb}
-use Rattle.basics.specs.Choice.{pick}
 use Rattle.basics.proofs.RowLaws.{row_at}
 use Rattle.table.specs.declared.Task.{Task}
 use Rattle.table.specs.Limits.{max_tasks, max_resources}
@@ -19,6 +17,7 @@ use Rattle.field.proofs.RoundingLaws.{whole_to}
 use Rattle.line.specs.Stated.{UseFigures, held_pair}
 use Rattle.meaning.specs.Figures.{TaskFigures, no_figures, Figures, StatesUses, by_use_line, StatesTasks, by_task_line, StatesFigures, by_cpus_line, GoodFigures, use_for, pair_for, task_of, task_for, table_of}
 use Rattle.meaning.specs.Sides.{task_figures, OnTheirSides, Sides}
+use Rattle.meaning.proofs.PutRows.{picked}
 use Rattle.meaning.proofs.Meaning.{correct}
 use Rattle.meaning.proofs.OneReading.{unambiguous}
 
@@ -36,11 +35,8 @@ record TaskSides (x : TaskFigures) : Type 0 where
 
 uses_sides : {s : List ℕ} {us : List UseFigures} → StatesUses s us → (k : ℕ) → UseSides (use_for us k)
 uses_sides StatesUses.no_use k = record { c = whole_to Up 0; CT = whole_to Up 0 }
-uses_sides (by_use_line {u = u} {us} a r) k = go (eqb u.K (suc k)) (uses_sides r k)
-  where
-    go : (b : Bool) → UseSides (use_for us k) → UseSides (pick b u (use_for us k))
-    go true later = record { c = a.longest.rounds; CT = a.total.rounds }
-    go false later = later
+uses_sides (by_use_line {u = u} {us} a r) k =
+    picked UseSides (eqb u.K (suc k)) (record { c = a.longest.rounds; CT = a.total.rounds }) (uses_sides r k)
 
 tasks_sides : {s : List ℕ} {xs : List TaskFigures} → StatesTasks s xs → (i : ℕ) → i < length xs → TaskSides (get_or xs i no_figures)
 tasks_sides StatesTasks.no_tasks i h = absurd (omega arith)

@@ -6,50 +6,36 @@ use mathlib.Core.Path.{◌≡◌, refl, sym, ap, ◌∙◌}
 use mathlib.Core.Bool.{Bool, true, false}
 use mathlib.Core.List.{List, [], ◌∷◌, ◌++◌, append_assoc}
 use native.Mathlib.Omega.{arith}
+use native.Mathlib.Decide.{ℕ_discrete}
 use lib.ListN.{length}
 use lib.Dec.{eqb}
-use borrow.Author.Tests.{eqb-true, ne_eqb}
-use Rattle.basics.specs.Choice.{pick}
+use borrow.Author.Tests.{eqb-false, ne_eqb}
 use Rattle.basics.specs.Text.{bytes, ending, line_of}
 use Rattle.line.specs.Stated.{Without, no_byte, one_byte, IsField, AreFields, none, more, IsLine}
-use Rattle.listing.specs.Lines.{onto, lines, ends_in_LF}
+use Rattle.listing.specs.Lines.{lines, ends_in_LF}
 
 -- ---- a text by its first line
 
--- s is the line l, LF and the rest, whose lines are ls
-pub record Start (s l : List ℕ) (ls : List (List ℕ)) : Type 0 where
+-- s is the line l, LF and the rest
+pub record Start (s l : List ℕ) : Type 0 where
   pub rest : List ℕ
   pub text : s ≡ l ++ (10 ∷ rest)
   pub clean : Without 10 l
-  pub left : lines rest ≡ ls
 
-not_end : (b : ℕ) → eqb b 10 ≡ false → b ≡ 10 → ⊥
-not_end b d e = let z : ◌≡◌ {A = ℕ} 0 1 = cc in omega arith
+-- a text, line after line, up to what no LF ends
+pub data Lines : List ℕ → Type 0 where
+  no_line : {s : List ℕ} → Without 10 s → Lines s
+  a_line : {s l : List ℕ} (a : Start s l) → Lines a.rest → Lines s
 
-pub start_of : (s l : List ℕ) (ls : List (List ℕ)) → lines s ≡ l ∷ ls → Start s l ls
-start_of [] l ls e = absurd (let z : ◌≡◌ {A = ℕ} 0 1 = cc in omega arith)
-start_of (b ∷ s) l ls e = go (eqb b 10) refl (lines s) refl e (start_of s)
+pub lines_of : (s : List ℕ) → Lines s
+lines_of [] = no_line no_byte
+lines_of (b ∷ s) = go (ℕ_discrete b 10) (lines_of s)
   where
-    go : (t : Bool) → eqb b 10 ≡ t → (ms : List (List ℕ)) → lines s ≡ ms → pick t ([] ∷ ms) (onto b ms) ≡ l ∷ ls
-        → ((m : List ℕ) (ns : List (List ℕ)) → lines s ≡ m ∷ ns → Start s m ns) → Start (b ∷ s) l ls
-    go true d ms f q ih =
-        let n : l ≡ [] = cc in
-        rw (n, eqb-true b 10 d) (record { rest = s; text = refl; clean = no_byte; left = cc })
-    go false d [] f q ih = absurd (let z : ◌≡◌ {A = ℕ} 0 1 = cc in omega arith)
-    go false d (m ∷ ms) f q ih =
-        let a = ih m ms f in
-        let n : l ≡ b ∷ m = cc in
-        rw n (record { rest = a.rest; text = ap (λ (x : List ℕ). b ∷ x) a.text; clean = one_byte (not_end b d) a.clean; left = cc a.left })
-
--- a text without a line that ends
-pub no_line_of : (s : List ℕ) → lines s ≡ [] → Without 10 s
-no_line_of [] e = no_byte
-no_line_of (b ∷ s) e = go (eqb b 10) refl (lines s) refl e (no_line_of s)
-  where
-    go : (t : Bool) → eqb b 10 ≡ t → (ms : List (List ℕ)) → lines s ≡ ms → pick t ([] ∷ ms) (onto b ms) ≡ [] → (lines s ≡ [] → Without 10 s) → Without 10 (b ∷ s)
-    go true d ms f q ih = absurd (let z : ◌≡◌ {A = ℕ} 0 1 = cc in omega arith)
-    go false d [] f q ih = one_byte (not_end b d) (ih f)
-    go false d (m ∷ ms) f q ih = absurd (let z : ◌≡◌ {A = ℕ} 0 1 = cc in omega arith)
+    go : Dec (b ≡ 10) → Lines s → Lines (b ∷ s)
+    go (yes e) r = a_line {l = []} (record { rest = s; text = rw e; clean = no_byte }) r
+    go (no n) (no_line w) = no_line (one_byte n w)
+    go (no n) (a_line {l} a r) =
+        a_line {l = b ∷ l} (record { rest = a.rest; text = ap (λ (x : List ℕ). b ∷ x) a.text; clean = one_byte n a.clean }) r
 
 pub no_lines_lem : {s : List ℕ} → Without 10 s → lines s ≡ []
 no_lines_lem no_byte = refl
@@ -86,7 +72,7 @@ clean_both (one_byte n r) z = one_byte n (clean_both r z)
 
 body_clean : {ws : List (List ℕ)} → AreFields ws → Without 10 (body ws)
 body_clean none = no_byte
-body_clean (more a r) = one_byte (not_end 32 refl) (clean_both a.no_end (body_clean r))
+body_clean (more a r) = one_byte (eqb-false 32 10 refl) (clean_both a.no_end (body_clean r))
 
 -- a text that starts with it
 pub record Begun (word : String) (ws : List (List ℕ)) (rest : List ℕ) : Type 0 where

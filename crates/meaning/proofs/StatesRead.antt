@@ -10,7 +10,8 @@ use native.Mathlib.Nat.{add-zero, zero-add}
 use lib.ListN.{length}
 use Rattle.basics.specs.Text.{bytes, line_of}
 use Rattle.table.specs.declared.Table.{Table}
-use Rattle.table.specs.declared.Reading.{Reading}
+use Rattle.std.specs.Prelude.{Ok}
+use Rattle.table.specs.Answers.{Reading}
 use Rattle.table.specs.declared.Resource.{Resource}
 use Rattle.table.specs.Limits.{max_tasks}
 use Rattle.table.proofs.RuleFacts.{may_follow_is}
@@ -22,7 +23,7 @@ use Rattle.line.specs.Line.{line_says}
 use Rattle.line.specs.Stated.{IsField, AreFields, none, more, IsLine, StatesGroup, StatesTask, StatesUse, UseFigures, held_pair}
 use Rattle.line.proofs.StatedLaws.{count_field_lem, time_field_lem, group_word, task_word, alpha_word, use_word}
 use Rattle.listing.specs.Lines.{lines, ends_in_LF}
-use Rattle.listing.specs.Read.{no_lines, after_task, after_group, past_after, table_after, on_said, read_lines}
+use Rattle.listing.specs.Read.{no_lines, after_task, after_group, past_after, table_after, read_lines}
 use Rattle.meaning.specs.Figures.{AlphaFigure, no_alpha, alpha_of, TaskFigures, GroupFigures, Figures, StatesGroups, by_group_line, StatesAlpha, no_alpha_line, by_alpha_line, StatesUses, by_use_line, StatesTasks, by_task_line, GoodGroups, GoodUses, GoodAlpha, last_with, GoodTasks, alpha_lines, alphas_of}
 use Rattle.meaning.specs.Refusals.{last_group, last_task, last_k, sum_CT, last_alpha_of, left_of, left_after, left_by, line_count}
 use Rattle.meaning.proofs.SplitLaws.{line_split, line_shut, begun}
@@ -34,8 +35,8 @@ read_text t past n s = read_lines t past n (lines s) (ends_in_LF true s)
 
 -- a line of a word and fields, where every such line says x
 pub line_read : (word : String) {ws : List (List ℕ)} (rest : List ℕ) (t : Table) (past : Past) (n : ℕ) (x : Said) → IsField (bytes word) → AreFields ws
-    → ((l : List ℕ) → IsLine word ws l → line_says past n l ≡ x)
-    → read_text t past n (line_of word ws ++ rest) ≡ on_said x (read_text (table_after t past.tasks x) (past_after past x) (n + 1) rest)
+    → ((l : List ℕ) → IsLine word ws l → line_says past n l ≡ Ok x)
+    → read_text t past n (line_of word ws ++ rest) ≡ read_text (table_after t past.tasks x) (past_after past x) (n + 1) rest
 unfolding read_lines
 line_read word rest t past n x a b says =
     let r = begun word rest a b in

@@ -2,15 +2,14 @@
 -- the nth task.
 -- Assumes nothing.
 use Prim.Native.Nat.{ℕ, zero, suc, ◌+◌, ◌≤◌, ◌<◌}
-use mathlib.Core.Path.{◌≡◌, refl, sym, ap, ◌∙◌}
+use mathlib.Core.Path.{◌≡◌, refl, sym, ◌∙◌}
 use mathlib.Core.List.{List, [], ◌∷◌, ◌++◌, append_assoc}
 use mathlib.Core.Logic.{◌⊎◌, inl, inr}
 use native.Mathlib.Omega.{arith}
-use native.Mathlib.Decide.{ℕ_discrete}
 use native.Mathlib.Nat.{add-zero}
 use lib.ListN.{length}
 use lib.Dec.{ltb}
-use borrow.Author.Tests.{lt-ltb, le-ltb, eq-eqb, ne_eqb}
+use borrow.Author.Tests.{lt-ltb, le-ltb}
 use Rattle.basics.specs.Choice.{pick, only}
 use Rattle.basics.specs.Over.{sum_to, join_to}
 use Rattle.basics.proofs.SumLaws.{sum_rises}
@@ -25,7 +24,7 @@ use Rattle.table.proofs.RuleFacts.{all_or_none_is}
 use Rattle.table.proofs.AlphaLaws.{holds_unless, some_only_is, all_or_none_reads}
 use Rattle.table.specs.Accepted.{GoodPair, GoodTask, Accepted}
 use Rattle.field.specs.declared.Rounding.TheVariants.{Down, Up}
-use Rattle.line.specs.Stated.{UseFigures}
+use Rattle.line.specs.Stated.{UseFigures, held_pair}
 use Rattle.meaning.proofs.FieldBack.{count_text_lem, exactly, time_text_lem}
 use Rattle.meaning.specs.Figures.{AlphaFigure, no_alpha, alpha_of, TaskFigures, Figures, StatesAlpha, no_alpha_line, by_alpha_line, StatesUses, StatesTasks, StatesFigures, by_cpus_line, GoodUses, GoodAlpha, last_with, GoodTasks, alpha_lines, alphas_of, GoodFigures, held_alpha, group_for, pair_for, task_of, task_for, table_of}
 use Rattle.basics.specs.Text.{line_of}
@@ -34,6 +33,8 @@ use Rattle.writing.specs.Write.{use_text, pair_text, times_text, alpha_text, own
 use Rattle.writing.proofs.WriteLaws.{alpha_none, alpha_some}
 use Rattle.table.specs.Cleared.{cleared_task, cleared}
 use Rattle.basics.proofs.RowLaws.{row_eq}
+use Rattle.meaning.proofs.PutRows.{Holds, holds_none, holds_skip, holds_more}
+use Rattle.meaning.proofs.PairRows.{resource_of, pair_for_lem}
 use Rattle.meaning.proofs.TextGroups.{groups_from}
 
 -- ---- a task's uses
@@ -43,8 +44,7 @@ record UsesFrom (x : Task) (k : ℕ) (s : List ℕ) : Type 0 where
   uses : List UseFigures
   states : StatesUses s uses
   good : (last sum : ℕ) → last ≤ k → sum ≤ sum_to k (total_of x) → GoodUses x.run last sum uses
-  low : (j : ℕ) → j < k → pair_for uses j ≡ unused_pair
-  at : (j : ℕ) → k ≤ j → j < max_resources → pair_for uses j ≡ pair_of x j
+  holds : Holds resource_of held_pair unused_pair k uses (pair_of x)
 
 module _ {x : Task} {k : ℕ} {s : List ℕ} (r : UsesFrom x (suc k) s) where
   -- a pair that is not in use is not written
@@ -55,13 +55,8 @@ module _ {x : Task} {k : ℕ} {s : List ℕ} (r : UsesFrom x (suc k) s) where
         uses = r.uses;
         states = r.states;
         good = λ last sum a b. r.good last sum (omega arith) (omega arith);
-        low = λ j h. r.low j (omega arith);
-        at = λ j a b. go j a b (ℕ_discrete k j);
+        holds = holds_skip resource_of held_pair unused_pair r.holds e;
       }
-    where
-      go : (j : ℕ) → k ≤ j → j < max_resources → Dec (k ≡ j) → pair_for r.uses j ≡ pair_of x j
-      go j a b (yes q) = r.low j (omega arith) ∙ sym (rw q at e)
-      go j a b (no q) = r.at j (omega arith) b
 
   write_use : GoodTask x → k < max_resources → GoodPair (pair_of x k) → UsesFrom x k (use_text (suc k) (pair_of x k) ++ s)
   unfolding use_text sum_to
@@ -72,22 +67,17 @@ module _ {x : Task} {k : ℕ} {s : List ℕ} (r : UsesFrom x (suc k) s) where
         good = λ last sum a b.
             GoodUses.one_use {last = last} {sum = sum} {u = u} (omega arith) h p (omega (arith, sum_rises (suc k) max_resources (total_of x) h, g.totals))
             (r.good _ _ (omega arith) (omega arith));
-        low = λ j h. rw (ne_eqb (suc k) (suc j) (λ e. omega arith)) (r.low j (omega arith));
-        at = λ j a b. go j a b (ℕ_discrete k j);
+        holds = holds_more resource_of held_pair unused_pair r.holds u refl refl;
       }
     where
       u : UseFigures
       u = record { K = suc k; N = (pair_of x k).requests; c = exactly (pair_of x k).longest; CT = exactly (pair_of x k).total }
 
-      go : (j : ℕ) → k ≤ j → j < max_resources → Dec (k ≡ j) → pair_for (u ∷ r.uses) j ≡ pair_of x j
-      go j a b (yes e) = rw (eq-eqb (suc k) (suc j) (ap suc e), e)
-      go j a b (no e) = rw (ne_eqb (suc k) (suc j) (λ z. omega arith)) (r.at j (omega arith) b)
-
 uses_from : (x : Task) → GoodTask x → UsesFrom x 0 (join_to max_resources (pair_text x))
 unfolding pair_text
 uses_from x g =
     join_from (UsesFrom x) max_resources (pair_text x) (λ k s h r. go k s h r (g.pair k h))
-    (record { uses = []; states = StatesUses.no_use; good = λ last sum a b. GoodUses.no_use; low = λ j h. refl; at = λ j a b. absurd (omega arith) })
+    (record { uses = []; states = StatesUses.no_use; good = λ last sum a b. GoodUses.no_use; holds = holds_none resource_of held_pair unused_pair (pair_of x) })
   where
     go : (k : ℕ) (s : List ℕ) → k < max_resources → UsesFrom x (suc k) s → (pair_of x k ≡ unused_pair) ⊎ GoodPair (pair_of x k) → UsesFrom x k (pair_text x k ++ s)
     go k s h r (inl e) = rw e (skip_use r e)
@@ -164,7 +154,7 @@ task_from {t} {k} {s} r h g f =
     at : (i j : ℕ) → j ≡ k + i → task_for (y ∷ r.tasks) i ≡ pick (ltb j t.n) (cleared_task (task_at t j)) empty_task
     at zero j e =
         let q : j ≡ k = omega arith in
-        rw (q, lt-ltb k t.n h, figure_held x.alpha, row_eq max_resources (pair_for w.uses) (pair_of x) (λ i l. w.at i (omega arith) l))
+        rw (q, lt-ltb k t.n h, figure_held x.alpha, row_eq max_resources (pair_for w.uses) (pair_of x) (λ i l. sym (pair_for_lem w.uses i) ∙ w.holds.at i (omega arith) l))
     at (suc i) j e = r.at i j (omega arith)
 
 tasks_from : (t : Table) → Accepted t → TasksFrom t 0 (join_to t.n (λ i. task_text (task_at t i)))
@@ -193,5 +183,5 @@ text_states t a =
       rw (append_assoc (line_of "cpus" (count_text t.cpus ∷ [])) (join_to max_resources (member_text t.groups)) (join_to t.n (λ i. task_text (task_at t i))))
           (by_cpus_line (count_text_lem t.cpus (omega arith)) h.states r.states),
       record { so_far = record { cpus_least = a.cpus_least; cpus_most = a.cpus_most; groups = h.good 0 (omega arith); tasks_most = omega arith; tasks = r.good 0 (λ h. inl refl) }; tasks_least = omega arith; alphas = rw (← e, ← b) c },
-      rw (← row_eq max_tasks (task_for r.tasks) _ (λ i h. r.at i i (omega arith)), ← row_eq max_resources (group_for h.groups) (group_at t) (λ k l. h.at k (omega arith) l), ← e),
+      rw (← row_eq max_tasks (task_for r.tasks) _ (λ i h. r.at i i (omega arith)), ← row_eq max_resources (group_for h.groups) (group_at t) (λ k l. h.holds.at k (omega arith) l), ← e),
     )

@@ -1,11 +1,11 @@
 -- The group lines of an accepted table's text state its groups.
 -- Assumes nothing.
 use Prim.Native.Nat.{ℕ, suc, ◌≤◌, ◌<◌}
-use mathlib.Core.Path.{◌≡◌, refl, sym, ap, ◌∙◌}
+use mathlib.Core.Path.{◌≡◌, refl}
 use mathlib.Core.List.{List, [], ◌∷◌, ◌++◌}
 use native.Mathlib.Omega.{arith}
 use native.Mathlib.Decide.{ℕ_discrete}
-use borrow.Author.Tests.{lt-ltb, eq-eqb, ne_eqb}
+use borrow.Author.Tests.{lt-ltb}
 use Rattle.basics.specs.Over.{join_to}
 use Rattle.basics.proofs.JoinLaws.{join_from}
 use Rattle.table.specs.declared.Table.{Table}
@@ -13,16 +13,17 @@ use Rattle.table.specs.Limits.{max_resources}
 use Rattle.table.specs.At.{group_at}
 use Rattle.table.specs.Accepted.{Accepted}
 use Rattle.writing.specs.Write.{group_text, member_text}
-use Rattle.meaning.specs.Figures.{GroupFigures, StatesGroups, by_group_line, GoodGroups, group_for}
+use Rattle.meaning.specs.Figures.{GroupFigures, StatesGroups, by_group_line, GoodGroups}
 use Rattle.meaning.proofs.FieldBack.{count_text_lem}
+use Rattle.meaning.proofs.PutRows.{Holds, holds_none, holds_skip, holds_more}
+use Rattle.meaning.proofs.GroupRows.{resource_of, group_of}
 
 -- s states the groups of t from resource k + 1 on: they obey the rules after a group line of any resource before, and hold t's groups
 pub record GroupsFrom (t : Table) (k : ℕ) (s : List ℕ) : Type 0 where
   pub groups : List GroupFigures
   pub states : StatesGroups s groups
   pub good : (last : ℕ) → last ≤ k → GoodGroups last groups
-  pub low : (j : ℕ) → j < k → group_for groups j ≡ 0
-  pub at : (j : ℕ) → k ≤ j → j < max_resources → group_for groups j ≡ group_at t j
+  pub holds : Holds resource_of group_of 0 k groups (group_at t)
 
 module _ {t : Table} {k : ℕ} {s : List ℕ} (r : GroupsFrom t (suc k) s) where
   -- a resource without a group is not written
@@ -32,13 +33,8 @@ module _ {t : Table} {k : ℕ} {s : List ℕ} (r : GroupsFrom t (suc k) s) where
         groups = r.groups;
         states = r.states;
         good = λ last h. r.good last (omega arith);
-        low = λ j h. r.low j (omega arith);
-        at = λ j a b. go j a b (ℕ_discrete k j);
+        holds = holds_skip resource_of group_of 0 r.holds e;
       }
-    where
-      go : (j : ℕ) → k ≤ j → j < max_resources → Dec (k ≡ j) → group_for r.groups j ≡ group_at t j
-      go j a b (yes q) = r.low j (omega arith) ∙ sym (rw q at e)
-      go j a b (no q) = r.at j (omega arith) b
 
   write_group : Accepted t → k < max_resources → 1 ≤ group_at t k → GroupsFrom t k (group_text (group_at t k) (suc k) ++ s)
   unfolding group_text
@@ -48,22 +44,17 @@ module _ {t : Table} {k : ℕ} {s : List ℕ} (r : GroupsFrom t (suc k) s) where
         groups = x ∷ r.groups;
         states = by_group_line {x = x} (record { group = count_text_lem _ (omega arith); resource = count_text_lem _ (omega arith) }) r.states;
         good = λ last a. GoodGroups.one_group {last = last} {x = x} l m (omega arith) h (r.good (suc k) (omega arith));
-        low = λ j a. rw (ne_eqb (suc k) (suc j) (λ e. omega arith)) (r.low j (omega arith));
-        at = λ j a b. go j a b (ℕ_discrete k j);
+        holds = holds_more resource_of group_of 0 r.holds x refl refl;
       }
     where
       x : GroupFigures
       x = record { G = group_at t k; K = suc k }
 
-      go : (j : ℕ) → k ≤ j → j < max_resources → Dec (k ≡ j) → group_for (x ∷ r.groups) j ≡ group_at t j
-      go j a b (yes e) = rw (eq-eqb (suc k) (suc j) (ap suc e), e)
-      go j a b (no e) = rw (ne_eqb (suc k) (suc j) (λ z. omega arith)) (r.at j (omega arith) b)
-
 pub groups_from : (t : Table) → Accepted t → GroupsFrom t 0 (join_to max_resources (member_text t.groups))
 unfolding member_text
 groups_from t g =
     join_from (GroupsFrom t) max_resources (member_text t.groups) (λ k s h r. go k s h r (ℕ_discrete (group_at t k) 0))
-    (record { groups = []; states = StatesGroups.no_group; good = λ last h. GoodGroups.no_group; low = λ j h. refl; at = λ j a b. absurd (omega arith) })
+    (record { groups = []; states = StatesGroups.no_group; good = λ last h. GoodGroups.no_group; holds = holds_none resource_of group_of 0 (group_at t) })
   where
     go : (k : ℕ) (s : List ℕ) → k < max_resources → GroupsFrom t (suc k) s → Dec (group_at t k ≡ 0) → GroupsFrom t k (member_text t.groups k ++ s)
     go k s h r (yes e) = rw e (skip_group r e)

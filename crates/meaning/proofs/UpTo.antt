@@ -1,8 +1,8 @@
 -- How far a listing states figures, and what is read of it up to there.
 -- Assumes nothing.
 use Prim.Native.Nat.{ℕ, ◌+◌}
-use mathlib.Core.Path.{◌≡◌, refl, sym, ap, ◌∙◌}
-use mathlib.Core.Bool.{true, true≢false}
+use mathlib.Core.Path.{◌≡◌, refl, ap, ◌∙◌}
+use mathlib.Core.Bool.{true}
 use mathlib.Core.List.{List, [], ◌∷◌, ◌++◌, append_assoc}
 use native.Mathlib.Omega.{arith}
 use native.Mathlib.Nat.{zero-add}
@@ -11,11 +11,11 @@ use Rattle.basics.specs.Text.{bytes, line_of}
 use Rattle.table.specs.declared.Resource.{Resource}
 use Rattle.table.specs.declared.Table.{Table}
 use Rattle.table.specs.declared.Refusal.{Refusal}
-use Rattle.table.specs.declared.Checked.TheVariants.{Refused}
+use Rattle.std.specs.Prelude.{Result, Err}
 use Rattle.table.specs.Empty.{empty_table}
 use Rattle.line.specs.declared.Past.{Past}
 use Rattle.line.specs.declared.Said.{Said}
-use Rattle.line.specs.declared.Said.TheVariants.{Cpus, Not}
+use Rattle.line.specs.declared.Said.TheVariants.{Cpus}
 use Rattle.line.specs.Fields.{others, form}
 use Rattle.line.specs.Line.{count_in, line_says}
 use Rattle.line.specs.Stated.{Without, none, more, UseFigures}
@@ -23,11 +23,11 @@ use Rattle.line.proofs.WordLaws.{fields_from, form_line}
 use Rattle.line.proofs.StatedLaws.{others_alone, count_in_lem, count_field_lem, cpus_word}
 use Rattle.line.proofs.LineRules.{CpusRules, Line, is_cpus, is_group, is_task, is_alpha, is_use, is_not}
 use Rattle.line.proofs.Says.{line_is}
-use Rattle.listing.specs.Lines.{lines, ends_in_LF}
+use Rattle.listing.specs.Lines.{ends_in_LF}
 use Rattle.listing.specs.Read.{no_lines, after_group, past_after, table_after, read_end, read_lines}
 use Rattle.meaning.specs.Figures.{no_alpha, Figures, StatesUses, StatesFigures, by_cpus_line, GoodUses, GoodSoFar, table_of}
 use Rattle.meaning.specs.Refusals.{last_group, left_by, line_count, next_line}
-use Rattle.meaning.proofs.SplitLaws.{Start, start_of, no_line_of, no_lines_lem, line_split, word_text_lem}
+use Rattle.meaning.proofs.SplitLaws.{Start, Lines, no_line, a_line, lines_of, no_lines_lem, line_split, word_text_lem}
 use Rattle.meaning.proofs.SaysLaws.{says_cpus}
 use Rattle.meaning.proofs.TableLaws.{stored}
 use Rattle.meaning.proofs.StatesRead.{read_text, line_read, past_tasks, past_groups, groups_left, groups_read, tasks_read, past_after_lem, past_all}
@@ -47,7 +47,7 @@ no_uses : {C last sum : ℕ} {s : List ℕ} {us : List UseFigures} → StatesUse
 no_uses StatesUses.no_use GoodUses.no_use e = (refl, refl)
 no_uses (StatesUses.by_use_line a r) (GoodUses.one_use x y g z q) e = absurd (omega (arith, g.longest_least, g.longest_total))
 
-cpus_states : {s l : List ℕ} {ls : List (List ℕ)} (a : Start s l ls) (M : ℕ) → form (bytes "cpus") 2 l ≡ true → CpusRules (count_in l 1) M
+cpus_states : {s l : List ℕ} (a : Start s l) (M : ℕ) → form (bytes "cpus") 2 l ≡ true → CpusRules (count_in l 1) M
     → Head no_lines 2 a.rest → StatesUpTo s
 cpus_states {l = l} a M f r h =
     let K : Resource = record { 0 = last_group 0 h.groups } in
@@ -67,19 +67,19 @@ cpus_states {l = l} a M f r h =
 
 pub states_up_to : (s : List ℕ) → StatesUpTo s
 unfolding past_after
-states_up_to s = go (lines s) refl
+states_up_to s = go (lines_of s)
   where
-    line : (l : List ℕ) (ls : List (List ℕ)) (a : Start s l ls) (x : Said) → line_says no_lines 1 l ≡ x → Line no_lines 1 l x → StatesUpTo s
-    line l ls a _ d (is_cpus {M} f e r) = cpus_states a M f r (heads_to ls a.rest no_lines 2 a.left (omega arith) refl refl)
-    line l ls a _ d (is_group f h e r) = absurd (omega arith)
-    line l ls a _ d (is_task f e r) = absurd (omega arith)
-    line l ls a _ d (is_alpha f e r) = absurd (true≢false (sym e))
-    line l ls a _ d (is_use f e r) = absurd (omega arith)
-    line l ls a _ d (is_not r) = stops_first (at_line l a.rest r a.text a.clean d)
+    line : {l : List ℕ} (a : Start s l) → Lines a.rest → (x : Result Said Refusal) → line_says no_lines 1 l ≡ x → Line no_lines 1 l x → StatesUpTo s
+    line a rest _ d (is_cpus {M} f e r) = cpus_states a M f r (heads_to rest no_lines 2 (omega arith) refl refl)
+    line a rest _ d (is_group f h e r) = absurd (omega arith)
+    line a rest _ d (is_task f e r) = absurd (omega arith)
+    line a rest _ d (is_alpha f e r) = absurd cc
+    line a rest _ d (is_use f e r) = absurd (omega arith)
+    line a rest _ d (is_not r) = stops_first (at_line a d)
 
-    go : (ls : List (List ℕ)) → lines s ≡ ls → StatesUpTo s
-    go [] e = stops_first (at_end (no_line_of s e))
-    go (l ∷ ls) e = line l ls (start_of s l ls e) (line_says no_lines 1 l) refl (line_is no_lines 1 l)
+    go : Lines s → StatesUpTo s
+    go (no_line w) = stops_first (at_end w)
+    go (a_line {l} a rest) = line a rest (line_says no_lines 1 l) refl (line_is no_lines 1 l)
 
 -- ---- what is read of it
 
@@ -101,10 +101,9 @@ figures_read left (by_cpus_line {m} {groups} {rest} {f} a h r) g =
     ∙ rw (past_all f, z, n, stored f.M g.groups g.tasks g.tasks_most)
 
 -- where it stops: at a line that is refused, and at the end
-pub stop_line : (t : Table) (past : Past) (n : ℕ) {l : List ℕ} (rest : List ℕ) (r : Refusal) → Without 10 l → line_says past n l ≡ Not r
-    → (read_text t past n (l ++ (10 ∷ rest))).answer ≡ Refused r
+pub stop_line : (t : Table) (past : Past) (n : ℕ) {s l : List ℕ} {r : Refusal} (a : Start s l) → line_says past n l ≡ Err r → read_text t past n s ≡ Err r
 unfolding read_lines
-stop_line t past n rest r w e = rw (line_split rest w, e)
+stop_line t past n a e = rw (a.text, line_split a.rest a.clean, e)
 
 pub stop_end : (t : Table) (past : Past) (n : ℕ) {s : List ℕ} → Without 10 s → read_text t past n s ≡ read_end t past n (ends_in_LF true s)
 unfolding read_lines

@@ -1,7 +1,7 @@
 -- What reading means, as statements over the second way to say it.
 use Rattle.std.specs.Prelude.{ℕ, ◌≤◌, ◌≡◌, List, length}
 use Rattle.table.specs.declared.Table.{Table}
-use Rattle.table.specs.declared.Checked.TheVariants.{Fine}
+use Rattle.std.specs.Prelude.{Ok}
 use Rattle.table.specs.Limits.{max_listing}
 use Rattle.table.specs.Rules.{table_fault}
 use Rattle.table.specs.Answers.{accepted}
@@ -25,4 +25,4 @@ Unambiguous = (s : List ℕ) (f g : Figures) → StatesFigures s f → StatesFig
 
 -- what a reading accepts, the check of a table accepts
 abbrev pub PassesCheck : Type 0
-PassesCheck = (s : List ℕ) (t : Table) → read_listing s ≡ accepted t → table_fault t ≡ Fine
+PassesCheck = (s : List ℕ) (t : Table) → read_listing s ≡ accepted t → table_fault t ≡ Ok tt

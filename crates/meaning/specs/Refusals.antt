@@ -108,4 +108,4 @@ pub data CallsFor (s : List ℕ) : ℕ → ℕ → Type 0 where
 pub record RefusedAsCalled : Type 0 where
   -- a line is refused with the number that it calls for, and at its own number
   pub line : LineRefused
-  pub listing : (s : List ℕ) (number place : ℕ) → Refuses (read_listing s).answer number place exactly_if CallsFor s number place
+  pub listing : (s : List ℕ) (number place : ℕ) → Refuses (read_listing s) number place exactly_if CallsFor s number place

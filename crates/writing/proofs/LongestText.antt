@@ -17,7 +17,7 @@ use Rattle.basics.proofs.JoinLaws.{join_length, join_bound}
 use Rattle.table.specs.declared.Pair.{Pair}
 use Rattle.table.specs.declared.Task.{Task}
 use Rattle.table.specs.declared.Table.{Table}
-use Rattle.table.specs.declared.Checked.TheVariants.{Fine}
+use Rattle.std.specs.Prelude.{Ok}
 use Rattle.table.specs.Limits.{max_resources, max_group, max_alpha}
 use Rattle.table.specs.At.{a_pair, a_task, with_alpha, a_table, with_groups, task_at, pair_of, total_of}
 use Rattle.table.specs.Faults.{first_fault}
@@ -144,7 +144,7 @@ head_few t a =
       group_lines,
     )
 
-text_most : (t : Table) → table_fault t ≡ Fine → length (text_of t) ≤ max_text
+text_most : (t : Table) → table_fault t ≡ Ok tt → length (text_of t) ≤ max_text
 unfolding text_of
 text_most t e =
     let a = fine_accepted t e in
@@ -164,7 +164,7 @@ longest_task = with_alpha 64 (a_task 9_999_999 9_999_999 9_999_999 (replicate 9 
 abbrev longest_table : Table
 longest_table = with_groups (replicate 16 16) (a_table 64 32 (replicate 32 longest_task))
 
-longest_fine : table_fault longest_table ≡ Fine
+longest_fine : table_fault longest_table ≡ Ok tt
 unfolding sum_to all_to first_fault times_in_range times_in_order groups_in_range alpha_fault is_unused used_in_range pair_in_range totals_fit pair_fault pairs_fault task_fault last_alpha tasks_fault table_fault
 longest_fine = refl
 

@@ -1,23 +1,17 @@
 -- Laws of the writer: texts written one after the other, and how long the lines are.
 -- Assumes nothing.
-use Prim.Native.Nat.{ℕ, suc, ◌+◌, ◌≤◌, ◌<◌}
+use Prim.Native.Nat.{ℕ, ◌+◌, ◌≤◌, ◌<◌}
 use mathlib.Core.Path.{◌≡◌, refl, ap, ◌∙◌}
-use mathlib.Core.Bool.{true, false}
 use mathlib.Core.List.{List, [], ◌∷◌, ◌++◌, append_assoc, append-nil}
 use native.Mathlib.Omega.{arith}
-use native.Mathlib.Numerals.{add-one}
 use lib.ListN.{length, drop, length-append}
 use borrow.Author.Tests.{lt-ltb, le-ltb}
-use lib.Dec.{ltb}
-use Rattle.basics.specs.Choice.{pick}
 use Rattle.basics.specs.Over.{join_to}
 use Rattle.basics.specs.Text.{bytes, ending, line_of}
 use Rattle.basics.proofs.JoinLaws.{join_none, join_more, join_room}
 use Rattle.basics.proofs.FillLaws.{rest_at, back_at, Filled, filled_part}
 use Rattle.put.specs.Text.{count_text, time_text}
 use Rattle.put.proofs.PlaceLaws.{filled_within}
-use Rattle.put.proofs.TextLaws.{count_small}
-use Rattle.put.proofs.TimeLaws.{time_length}
 use Rattle.table.specs.declared.Pair.{Pair}
 use Rattle.table.specs.declared.Task.{Task}
 use Rattle.table.specs.declared.Table.{Table}
@@ -48,6 +42,10 @@ module _ (h : List ℕ) (f : ℕ → List ℕ) where
         → Filled o (back_at o₁ a ys) (h ++ join_to (i + 1) f) (a + k)
     filled_next g e = rw (one_more_lem i) (filled_part q (f i) (filled_within q) e.0 g e.1)
 
+-- what a writer of s put, where that is t
+pub put_of : {s t ys : List ℕ} (o : List ℕ) {k : ℕ} → s ≡ t → (k ≡ length s) × (ys ≡ s ++ drop k o) → (k ≡ length t) × (ys ≡ t ++ drop k o)
+put_of o e p = rw e at p
+
 -- ---- how long a line is
 
 -- the fields, each with the space before it, and the LF
@@ -64,15 +62,9 @@ module _ (K : ℕ) (p : Pair) where
   unfolding use_text
   use_length = omega (arith, ending_length (count_text K ∷ count_text p.requests ∷ time_text p.longest ∷ time_text p.total ∷ []))
 
-  pub use_most : K < 4_294_967_296 → p.requests < 4_294_967_296 → p.longest < 4_294_967_296 → p.total < 4_294_967_296 → length (use_text K p) ≤ 50
-  use_most k n c ct = omega (arith, use_length, count_small K k, count_small p.requests n, time_length p.longest c, time_length p.total ct)
-
 module _ (x : Task) where
   pub times_length : length (times_text x) ≡ 8 + length (time_text x.period) + length (time_text x.run) + length (time_text x.deadline)
   times_length = omega (arith, ending_length (time_text x.period ∷ time_text x.run ∷ time_text x.deadline ∷ []))
-
-  pub times_most : x.period < 4_294_967_296 → x.run < 4_294_967_296 → x.deadline < 4_294_967_296 → length (times_text x) ≤ 41
-  times_most t c d = omega (arith, times_length, time_length x.period t, time_length x.run c, time_length x.deadline d)
 
 -- a line of a word and a count
 pub counted_length : (word : List ℕ) (n : ℕ) → length (word ++ ending (count_text n ∷ [])) ≡ length word + 2 + length (count_text n)
@@ -92,9 +84,6 @@ module _ (G K : ℕ) where
   unfolding group_text
   group_length = omega (arith, ending_length (count_text G ∷ count_text K ∷ []))
 
-  pub group_most : G < 4_294_967_296 → K < 4_294_967_296 → length (group_text G K) ≤ 28
-  group_most g k = omega (arith, group_length, count_small G g, count_small K k)
-
 -- the first line
 abbrev pub cpus_text : ℕ → List ℕ
 cpus_text m = line_of "cpus" (count_text m ∷ [])
@@ -110,21 +99,3 @@ module _ (t : Table) where
   -- the lines of task i + 1
   abbrev pub lines_of : ℕ → List ℕ
   lines_of i = task_text (task_at t i)
-
--- ---- the line of a pair
-
-module _ (k : ℕ) (p : Pair) where
-  pub pair_unused : ltb 0 p.requests ≡ false → pick (ltb 0 p.requests) (use_text (suc k) p) [] ≡ []
-  pair_unused e = rw e
-
-  pub pair_used : ltb 0 p.requests ≡ true → pick (ltb 0 p.requests) (use_text (suc k) p) [] ≡ use_text (k + 1) p
-  pair_used e = rw (e, add-one k)
-
--- ---- the line of a resource
-
-module _ (k G : ℕ) where
-  pub member_none : G ≡ 0 → pick (ltb 0 G) (group_text G (suc k)) [] ≡ []
-  member_none e = rw (le-ltb 0 G (omega arith))
-
-  pub member_some : (G ≡ 0 → ⊥) → pick (ltb 0 G) (group_text G (suc k)) [] ≡ group_text G (k + 1)
-  member_some n = rw (lt-ltb 0 G (omega arith), add-one k)

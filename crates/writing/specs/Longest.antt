@@ -1,7 +1,7 @@
 -- How long the text of an accepted table can be, from the limits: the sum of the longest lines of each kind.
 use Rattle.std.specs.Prelude.{ℕ, ◌+◌, ◌*◌, ◌-◌, ◌/◌, ◌≤◌, ◌≡◌, length}
 use Rattle.table.specs.declared.Table.{Table}
-use Rattle.table.specs.declared.Checked.TheVariants.{Fine}
+use Rattle.std.specs.Prelude.{Ok}
 use Rattle.table.specs.Limits.{max_tasks, max_resources, max_time}
 use Rattle.table.specs.Rules.{table_fault}
 use Rattle.writing.specs.Write.{text_of}
@@ -51,5 +51,5 @@ max_text = max_cpus_text + max_groups_text + max_tasks * (max_task_text + max_al
 
 -- no text of an accepted table is longer, and one is as long
 pub record LongestText : Type 0 where
-  pub most : (t : Table) → table_fault t ≡ Fine → length (text_of t) ≤ max_text
-  pub reached : (t : Table) × (table_fault t ≡ Fine) × (length (text_of t) ≡ max_text)
+  pub most : (t : Table) → table_fault t ≡ Ok tt → length (text_of t) ≤ max_text
+  pub reached : (t : Table) × (table_fault t ≡ Ok tt) × (length (text_of t) ≡ max_text)

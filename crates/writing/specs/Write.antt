@@ -6,8 +6,8 @@ use Rattle.table.specs.declared.Pair.{Pair}
 use Rattle.table.specs.declared.Task.{Task}
 use Rattle.table.specs.declared.Table.{Table}
 use Rattle.table.specs.declared.Fault.TheVariants.{TooShort}
-use Rattle.table.specs.declared.Checked.{Checked}
-use Rattle.table.specs.declared.Written.{Written}
+use Rattle.table.specs.Faults.{Checked}
+use Rattle.table.specs.Answers.{Written}
 use Rattle.table.specs.Limits.{max_resources}
 use Rattle.table.specs.At.{task_at, pair_of}
 use Rattle.table.specs.Faults.{◌then◌, unless}

@@ -5,7 +5,7 @@ ghost use Rattle.std.specs.Prelude.{◌≡◌, length};
 ghost use Rattle.writing.specs.Write.{write_answer, written};
 ghost use Rattle.writing.specs.Longest.{max_text};
 
-use table::{Checked, Fault, Refusal, Table, Written};
+use table::{Fault, Refusal, Table};
 
 mod text;
 
@@ -24,17 +24,15 @@ fn longest_text()
 {}
 
 // The text of a table, at the start of out.
-pub fn write(t: Table, out: &mut [u8]) -> Written
+pub fn write(t: Table, out: &mut [u8]) -> Result<usize, Refusal>
     ensures { (result ≡ write_answer t (length out.old)) × (out.new ≡ written t out.old) }
 {
-    if let Checked::Refused(r) = checking::check(t) {
-        return Written::NotWritten(r);
-    }
+    checking::check(t)?;
     if out.len() < text::table_len(t) {
-        return Written::NotWritten(Refusal {
+        return Err(Refusal {
             fault: Fault::TooShort,
             place: 0,
         });
     }
-    Written::Wrote(text::put_table(out, t))
+    Ok(text::put_table(out, t))
 }

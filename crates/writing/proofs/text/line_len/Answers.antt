@@ -1,26 +1,23 @@
--- `writing::text::line_len` meets its contract: the fields, a space before each, the word and the LF. Assumes nothing.
-use Prim.Native.Nat.{◌+◌, ◌≤◌}
+use mathlib.Core.Path.{◌≡◌}
+use mathlib.Core.List.{[]}
 use native.Mathlib.Omega.{arith}
-use lib.ListN.{length}
-use Rattle.put.specs.Text.{time_text}
-use Rattle.writing.proofs.WriteLaws.{times_length, times_most}
+use lib.ListN.{length-append, drop_of_length-le}
+use Rattle.basics.specs.Text.{ending}
+use Rattle.writing.proofs.LineLaws.{fields_from, ending_next}
 use Rattle.writing.proofs.text.line_len.Goals as goal
-use Rattle.writing.proofs.text.line_len.Goals.{Start}
 
--- the line is short, so each sum fits
-short : (s : goal.Start) → 8 + length (time_text s.args.x.period) + length (time_text s.args.x.run) + length (time_text s.args.x.deadline) ≤ 41
-short s = omega (arith, times_length s.args.x, times_most s.args.x (omega arith) (omega arith) (omega arith))
+pub loop-field-init : goal.loop-field-init
+loop-field-init c = (omega arith, omega (arith, length-append c.args.word.now (ending (fields_from 0 c.args.fields.now))))
 
-pub overflow_add-result : goal.overflow_add-result
-overflow_add-result c = omega (arith, short (goal.at.overflow_add-result c).Start)
-
-pub overflow_add-result-2 : goal.overflow_add-result-2
-overflow_add-result-2 c = omega (arith, short (goal.at.overflow_add-result-2 c).Start)
-
-pub overflow_add-result-3 : goal.overflow_add-result-3
-overflow_add-result-3 c = omega (arith, short (goal.at.overflow_add-result-3 c).Start)
+pub loop-field-preserved : goal.loop-field-preserved
+loop-field-preserved c =
+    let l = c.loop-field in
+    let e = ending_next l.field-index c.args.fields.now _ c.loop-field-test.true c.len.ensures.value in
+    (omega (arith, c.len.ensures.upper_bound), omega arith)
 
 pub returns : goal.returns
 returns c =
-    let e = times_length c.args.x in
-    record { value = omega arith; upper_bound = omega (arith, short (goal.at.returns c).Start) }
+    let l = c.loop-field in
+    let e : fields_from l.field-index c.args.fields.now ≡ [] = rw (drop_of_length-le c.args.fields.now {i = l.field-index} c.loop-field-test.false) in
+    let i = rw e at l.invariant.1 in
+    record { value = omega arith; upper_bound = omega arith }

@@ -1,32 +1,27 @@
--- `writing::text::put_line` meets its contract: the word, each field and the LF are put at the place behind what was put before. Assumes nothing.
-use mathlib.Core.List.{◌∷◌, append_assoc}
 use native.Mathlib.Omega.{arith}
-use Rattle.basics.specs.Text.{bytes}
-use Rattle.basics.proofs.FillLaws.{filled_none}
-use Rattle.put.specs.Text.{time_text}
-use Rattle.put.proofs.OutputLaws.{filled_done}
-use Rattle.put.proofs.PlaceLaws.{filled_at}
-use Rattle.writing.specs.Write.{times_text}
-use Rattle.writing.proofs.WriteLaws.{times_length}
+use lib.ListN.{length-append}
+use Rattle.basics.specs.Text.{ending}
+use Rattle.put.proofs.OutputLaws.{written_all, filled_text}
+use Rattle.writing.specs.declared.text.Field.TheVariants.{Count}
+use Rattle.writing.proofs.LineLaws.{fields_from, lined_first, lined_in, lined_room, lined_more, lined_done}
 use Rattle.writing.proofs.text.put_line.Goals as goal
 
-pub spaced_time-b-requires : goal.spaced_time-b-requires
-spaced_time-b-requires c = omega (arith, times_length c.args.x)
+pub loop-field-init : goal.loop-field-init
+loop-field-init c = lined_first (fields_from 0 c.args.fields.now) (filled_text c.args.word.now c.put_text.auto.out (written_all c.args.word.now _ (omega (arith, length-append c.args.word.now (ending (fields_from 0 c.args.fields.now)))) c.unwrap_or-at.ensures c.put_text.ensures.0 c.put_text.ensures.1))
 
-pub spaced_time-c-requires : goal.spaced_time-c-requires
-spaced_time-c-requires c = omega (arith, times_length c.args.x)
+pub bounds-out-at : goal.bounds-out-at
+bounds-out-at c = let l = c.loop-field in lined_in l.field-index c.args.fields.now l.invariant c.requires (Count 0) c.loop-field-test.true
 
-pub spaced_time-d-requires : goal.spaced_time-d-requires
-spaced_time-d-requires c = omega (arith, times_length c.args.x)
+pub slice_bounds-put-count : goal.slice_bounds-put-count
+slice_bounds-put-count c = let l = c.loop-field in lined_room l.field-index c.args.fields.now l.invariant c.requires (Count 0) c.loop-field-test.true
 
-pub put-requires : goal.put-requires
-put-requires c = omega (arith, times_length c.args.x)
+pub slice_bounds-put-start : goal.slice_bounds-put-start
+slice_bounds-put-start c = let l = c.loop-field in lined_room l.field-index c.args.fields.now l.invariant c.requires (Count 0) c.loop-field-test.true
+
+pub loop-field-preserved : goal.loop-field-preserved
+loop-field-preserved c =
+    let l = c.loop-field in
+    lined_more l.field-index c.args.fields.now l.invariant c.requires _ c.loop-field-test.true c.put-at.auto.out c.put-at.ensures
 
 pub returns : goal.returns
-returns c =
-    let a = c.args in
-    let f₁ = filled_at (filled_none a.out.now) (bytes "task") c.put-a.auto.out c.put-a.ensures in
-    let f₂ = filled_at f₁ (32 ∷ time_text a.x.period) c.spaced_time-b.auto.out c.spaced_time-b.ensures in
-    let f₃ = filled_at f₂ (32 ∷ time_text a.x.run) c.spaced_time-c.auto.out c.spaced_time-c.ensures in
-    let f₄ = filled_at f₃ (32 ∷ time_text a.x.deadline) c.spaced_time-d.auto.out c.spaced_time-d.ensures in
-    filled_done (times_text a.x) (simp append_assoc) (filled_at f₄ (bytes "\n") c.put.auto.out c.put.ensures)
+returns c = let l = c.loop-field in lined_done l.field-index c.args.fields.now l.invariant c.requires c.loop-field-test.false

@@ -14,7 +14,7 @@ few s = (fine_accepted s.args.t s.requires).tasks_most
 pub loop-i-init : goal.loop-i-init
 loop-i-init c =
     let t = c.args.t in
-    (omega arith, omega arith, omega (arith, ap length (none_yet (head_of t) (lines_of t))))
+    (c.head_len-sum.ensures.upper_bound, omega (arith, c.head_len-sum.ensures.value, ap length (none_yet (head_of t) (lines_of t))))
 
 pub offset_bounds-t-i : goal.offset_bounds-t-i
 offset_bounds-t-i c = omega (arith, few (goal.at.offset_bounds-t-i c).Start)
@@ -23,16 +23,16 @@ pub bounds-t-i : goal.bounds-t-i
 bounds-t-i c = omega (arith, few (goal.at.bounds-t-i c).Start)
 
 pub overflow_add-sum : goal.overflow_add-sum
-overflow_add-sum c = omega (arith, few (goal.at.overflow_add-sum c).Start)
+overflow_add-sum c = omega (arith, few (goal.at.overflow_add-sum c).Start, c.task_len-sum.ensures.upper_bound)
 
 pub loop-i-preserved : goal.loop-i-preserved
 loop-i-preserved c =
     let t = c.args.t in
-    (omega arith, omega arith, omega (arith, more_length (head_of t) (lines_of t) c.loop-i.i))
+    (omega (arith, c.task_len-sum.ensures.upper_bound), omega (arith, more_length (head_of t) (lines_of t) c.loop-i.i, c.task_len-sum.ensures.value))
 
 pub returns : goal.returns
 unfolding text_of
 returns c =
     let l = c.loop-i in
     let e : l.i ≡ c.args.t.n = omega arith in
-    l.invariant.2 ∙ rw e
+    l.invariant.1 ∙ rw e

@@ -1,5 +1,5 @@
 -- `writing::text::table_len` meets its contract. The loop's invariant: the sum is the length of the lines before the tasks and of the lines of the tasks passed. Assumes nothing.
-use Prim.Native.Nat.{◌+◌, ◌*◌, ◌-◌, ◌≤◌}
+use Prim.Native.Nat.{◌+◌, ◌*◌, ◌≤◌}
 use mathlib.Core.Path.{◌≡◌}
 use mathlib.Core.List.{◌++◌}
 use lib.ListN.{length}
@@ -8,7 +8,4 @@ use Rattle.writing.proofs.WriteLaws.{head_of, lines_of}
 use Rattle.writing.proofs.text.table_len.Given as goal
 
 abbrev pub invariant-loop-i : goal.invariant-loop-i
-invariant-loop-i l = (l.i ≤ l.n) × (l.sum ≤ 464 + l.i * 858) × (l.sum ≡ length (head_of l.t ++ join_to l.i (lines_of l.t)))
-
-abbrev pub decreases-loop-i : goal.decreases-loop-i
-decreases-loop-i l = l.n - l.i
+invariant-loop-i l = (l.sum ≤ 54 * (17 + 18 * l.i)) × (l.sum ≡ length (head_of l.t ++ join_to l.i (lines_of l.t)))
