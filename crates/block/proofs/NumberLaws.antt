@@ -1,4 +1,4 @@
--- Numbers in bytes: two and four of them read, and how many are put.
+-- Numbers in bytes: two of them read, and how many are put.
 -- Assumes nothing.
 use Prim.Native.Nat.{ℕ, zero, suc, ◌+◌, ◌*◌, ◌/◌, ◌%◌}
 use mathlib.Core.Path.{◌≡◌, refl, ◌∙◌}
@@ -13,10 +13,6 @@ use Rattle.block.specs.Numbers.{in_bytes, byte_at, number_at}
 pub number_two : (s : List ℕ) (i : ℕ) → byte_at s i * 256 + byte_at s (i + 1) ≡ number_at s i 2
 unfolding number_at
 number_two s i = rw add-zero (omega arith)
-
-pub number_four : (s : List ℕ) (i : ℕ) → byte_at s i * 16777216 + byte_at s (i + 1) * 65536 + byte_at s (i + 2) * 256 + byte_at s (i + 3) ≡ number_at s i 4
-unfolding number_at
-number_four s i = rw add-zero (omega arith)
 
 -- ---- a number is put
 

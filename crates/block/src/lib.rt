@@ -34,31 +34,29 @@ pub fn put_block(out: &mut [u8], h: Head, x: Task) -> bool
     if out.len() < SIZE {
         return false;
     }
-    writing::put_all(out, h, x);
+    writing::put_all(out, h, &x);
     true
 }
 
 // Whether nothing is wrong with a block by itself: its length, check, mark, version and zeros.
+#[tactic(auto, unfolding(crate::specs::Block::good_block))]
 pub fn is_good(s: &[u8]) -> bool
     ensures { result ≡ good_block s.now }
 {
-    if s.len() != SIZE {
-        return false;
-    }
-    if reading::two(s, 510) != checksum::check_of(&s[..510]) {
-        return false;
-    }
-    reading::is_marked(s)
+    s.len() == SIZE
+        && reading::two(s, 510) == checksum::check_of(&s[..510])
+        && reading::is_marked(s)
 }
 
 // What a block says besides its task; bytes past its end are read as zeros.
+#[tactic(auto, unfolding(crate::specs::Block::head_in))]
 pub fn head_of(s: &[u8]) -> Head
     ensures { result ≡ head_in s.now }
 {
     Head {
-        cpus: reading::byte(s, 3),
-        n: reading::byte(s, 4),
-        number: reading::byte(s, 5),
+        cpus: u32::from(reading::byte(s, 3)),
+        n: u32::from(reading::byte(s, 4)),
+        number: u32::from(reading::byte(s, 5)),
     }
 }
 

@@ -1,79 +1,68 @@
 // Numbers, zeros and pairs at places of a block.
-ghost use Rattle.std.specs.Prelude.{◌≡◌, ◌+◌, ◌≤◌, ◌<◌, length};
+ghost use Rattle.std.specs.Prelude.{◌≡◌, ℕ, ◌+◌, ◌≤◌, ◌<◌, length, slice_index};
 ghost use Rattle.table.specs.Limits.{max_resources};
 ghost use Rattle.block.specs.Numbers.{byte_at, number_at};
 ghost use Rattle.block.specs.Block.{block_size, zeros_at, marked_block, pair_in, task_in};
 
-use table::{Pair, Table, Task};
+use std::array;
+use table::{Pair, Task};
 
 // The byte at a place; 0 past the end.
-pub(crate) fn byte(s: &[u8], i: usize) -> u32
-    ensures value { result ≡ byte_at s.now i }
-    ensures upper_bound { result ≤ 255 }
+pub(crate) fn byte(s: &[u8], i: usize) -> u8
+    ensures { result ≡ byte_at s.now i }
 {
-    if i < s.len() {
-        return s[i] as u32;
-    }
-    0
+    s.get(i).copied().unwrap_or(0)
+}
+
+// The N bytes from a place on. That the sums of such a place fit is all that the clause is for, here and in the two below: a type for it would be no plainer.
+fn bytes<const N: usize>(s: &[u8], at: usize) -> [u8; N]
+    requires { (at ≤ 510) × (N ≤ 4) }
+    ensures { (i : ℕ) → i < N → slice_index result i ≡ byte_at s.now (at + i) }
+{
+    array::from_fn(|i| byte(s, at + i))
 }
 
 // The number in two bytes from a place on.
+#[tactic(auto, unfolding(crate::specs::Numbers::number_at))]
 pub(crate) fn two(s: &[u8], at: usize) -> u32
     requires { at ≤ 510 }
     ensures { result ≡ number_at s.now at 2 }
 {
-    let high = byte(s, at);
-    let low = byte(s, at + 1);
-    high * 256 + low
+    u32::from(u16::from_be_bytes(bytes(s, at)))
 }
 
 // The number in four bytes from a place on.
+#[tactic(auto, unfolding(crate::specs::Numbers::number_at))]
 fn four(s: &[u8], at: usize) -> u32
     requires { at ≤ 510 }
     ensures { result ≡ number_at s.now at 4 }
 {
-    let a = byte(s, at);
-    let b = byte(s, at + 1);
-    let c = byte(s, at + 2);
-    let d = byte(s, at + 3);
-    a * 16_777_216 + b * 65_536 + c * 256 + d
+    u32::from_be_bytes(bytes(s, at))
 }
 
-// The k bytes from a place on are zeros: their sum is. A loop that always runs to its end is quicker than one that looks for the first.
+// The k bytes from a place on are zeros.
 fn zeros(s: &[u8], at: usize, k: usize) -> bool
     requires { (at + k ≤ length s.now) × (k ≤ block_size) }
     ensures { result ≡ zeros_at s.now at k }
 {
-    let mut sum: u32 = 0;
-    let mut j: usize = 0;
-    while j < k {
-        sum += s[at + j] as u32;
-        j += 1;
-    }
-    sum == 0
+    s[at..at + k].iter().fold(0, |all, b| all | b) == 0
 }
 
 // The mark, the version and the zeros.
+#[tactic(auto, unfolding(crate::specs::Block::marked_block))]
 pub(crate) fn is_marked(s: &[u8]) -> bool
     requires { length s.now ≡ block_size }
     ensures { result ≡ marked_block s.now }
 {
-    if byte(s, 0) != 0x54 {
-        return false;
-    }
-    if byte(s, 1) != 0x42 {
-        return false;
-    }
-    if byte(s, 2) != 1 {
-        return false;
-    }
-    if !zeros(s, 6, 2) {
-        return false;
-    }
-    zeros(s, 180, 330)
+    byte(s, 0) == b'T'
+        && byte(s, 1) == b'B'
+        && byte(s, 2) == 1
+        && zeros(s, 6, 2)
+        && zeros(s, 180, 330)
 }
 
 // The entry of resource k + 1.
+#[tactic(auto, unfolding(crate::specs::Block::pair_in))]
 fn pair(s: &[u8], k: usize) -> Pair
     requires { k < max_resources }
     ensures { result ≡ pair_in s.now k }
@@ -90,16 +79,7 @@ fn pair(s: &[u8], k: usize) -> Pair
 pub(crate) fn task(s: &[u8]) -> Task
     ensures { result ≡ task_in s.now }
 {
-    let mut pairs = [Pair {
-        requests: 0,
-        longest: 0,
-        total: 0,
-    }; Table::MAX_RESOURCES];
-    let mut k: usize = 0;
-    while k < Table::MAX_RESOURCES {
-        pairs[k] = pair(s, k);
-        k += 1;
-    }
+    let pairs = array::from_fn(|k| pair(s, k));
     Task {
         period: four(s, 8),
         run: four(s, 12),

@@ -1,5 +1,5 @@
 // The fields of a block, each at the start of an output that has the room.
-ghost use Rattle.std.specs.Prelude.{◌≡◌, ◌++◌, ◌≤◌, length, drop, replicate};
+ghost use Rattle.std.specs.Prelude.{◌≡◌, ◌++◌, ◌≤◌, ◌%◌, length, drop, replicate};
 ghost use Rattle.block.specs.Numbers.{in_bytes};
 ghost use Rattle.block.specs.Block.{block_size, head_bytes, times_bytes, entry_bytes, entries_bytes, body_of, block_of};
 
@@ -7,30 +7,22 @@ use crate::Head;
 use table::{Pair, Table, Task};
 
 // A number in two bytes, the higher first; what does not fit is left out.
+#[tactic(auto, unfolding(crate::specs::Numbers::in_bytes))]
 fn put_two(out: &mut [u8], x: u32)
     requires { 2 ≤ length out.old }
     ensures { out.new ≡ in_bytes 2 x ++ drop 2 out.old }
 {
-    let high = (x / 256 % 256) as u8;
-    let low = (x % 256) as u8;
-    out[0] = high;
-    out[1] = low;
+    let fits = (x % 0x1_0000) as u16;
+    out[..2].copy_from_slice(&fits.to_be_bytes());
 }
 
 // A number in four bytes, the highest first.
+#[tactic(auto, unfolding(crate::specs::Numbers::in_bytes))]
 fn put_four(out: &mut [u8], x: u32)
     requires { 4 ≤ length out.old }
     ensures { out.new ≡ in_bytes 4 x ++ drop 4 out.old }
 {
-    let rest = x / 256 / 256;
-    let a = (rest / 256 % 256) as u8;
-    let b = (rest % 256) as u8;
-    let c = (x / 256 % 256) as u8;
-    let d = (x % 256) as u8;
-    out[0] = a;
-    out[1] = b;
-    out[2] = c;
-    out[3] = d;
+    out[..4].copy_from_slice(&x.to_be_bytes());
 }
 
 // k zeros.
@@ -38,32 +30,30 @@ fn put_zeros(out: &mut [u8], k: usize)
     requires { k ≤ length out.old }
     ensures { out.new ≡ replicate k 0 ++ drop k out.old }
 {
-    let mut i: usize = 0;
-    while i < k {
-        out[i] = 0;
-        i += 1;
-    }
+    out[..k].fill(0);
+}
+
+// The lowest byte of a number.
+fn low(x: u32) -> u8
+    ensures { result ≡ x % 256 }
+{
+    (x % 256) as u8
 }
 
 // The mark, the version, what the block says besides its task, and two zeros.
+#[tactic(auto, unfolding(crate::specs::Numbers::in_bytes, crate::specs::Block::head_bytes))]
 fn put_head(out: &mut [u8], h: Head)
     requires { 8 ≤ length out.old }
     ensures { out.new ≡ head_bytes h ++ drop 8 out.old }
 {
-    out[0] = 0x54;
-    out[1] = 0x42;
-    out[2] = 1;
-    out[3] = (h.cpus % 256) as u8;
-    out[4] = (h.n % 256) as u8;
-    out[5] = (h.number % 256) as u8;
-    out[6] = 0;
-    out[7] = 0;
+    let bytes = [b'T', b'B', 1, low(h.cpus), low(h.n), low(h.number), 0, 0];
+    out[..8].copy_from_slice(&bytes);
 }
 
 // T, C and D.
-fn put_times(out: &mut [u8], x: Task)
+fn put_times(out: &mut [u8], x: &Task)
     requires { 12 ≤ length out.old }
-    ensures { out.new ≡ times_bytes x ++ drop 12 out.old }
+    ensures { out.new ≡ times_bytes x.now ++ drop 12 out.old }
 {
     put_four(out, x.period);
     put_four(&mut out[4..], x.run);
@@ -81,22 +71,20 @@ fn put_entry(out: &mut [u8], p: Pair)
 }
 
 // The entries of the sixteen resources.
-fn put_entries(out: &mut [u8], x: Task)
+fn put_entries(out: &mut [u8], x: &Task)
     requires { 160 ≤ length out.old }
-    ensures { out.new ≡ entries_bytes x ++ drop 160 out.old }
+    ensures { out.new ≡ entries_bytes x.now ++ drop 160 out.old }
 {
-    let mut k: usize = 0;
-    while k < Table::MAX_RESOURCES {
-        let p = x.pairs[k];
-        put_entry(&mut out[10 * k..], p);
-        k += 1;
+    // by an index: of parts that `chunks_exact_mut` lends, a proof learns nothing of the whole
+    for k in 0..Table::MAX_RESOURCES {
+        put_entry(&mut out[10 * k..], x.pairs[k]);
     }
 }
 
 // All that the check is over.
-fn put_body(out: &mut [u8], h: Head, x: Task)
+fn put_body(out: &mut [u8], h: Head, x: &Task)
     requires { 510 ≤ length out.old }
-    ensures { out.new ≡ body_of h x ++ drop 510 out.old }
+    ensures { out.new ≡ body_of h x.now ++ drop 510 out.old }
 {
     put_head(out, h);
     put_times(&mut out[8..], x);
@@ -105,9 +93,9 @@ fn put_body(out: &mut [u8], h: Head, x: Task)
 }
 
 // The body, and its check.
-pub(crate) fn put_all(out: &mut [u8], h: Head, x: Task)
+pub(crate) fn put_all(out: &mut [u8], h: Head, x: &Task)
     requires { block_size ≤ length out.old }
-    ensures { out.new ≡ block_of h x ++ drop block_size out.old }
+    ensures { out.new ≡ block_of h x.now ++ drop block_size out.old }
 {
     put_body(out, h, x);
     let check = checksum::check_of(&out[..510]);

@@ -1,6 +1,6 @@
--- The blocks of an archive as they are handed on, the table that is filled from them, and the blocks that are put.
+-- The table that is filled from the blocks of an archive, the blocks that are put, and a length of whole blocks.
 -- Assumes nothing.
-use Prim.Native.Nat.{ℕ, ◌+◌, ◌-◌, ◌*◌, ◌/◌, ◌%◌, ◌≤◌, ◌<◌}
+use Prim.Native.Nat.{ℕ, ◌+◌, ◌*◌, ◌/◌, ◌%◌, ◌≤◌, ◌<◌}
 use mathlib.Core.Path.{◌≡◌, sym, ◌∙◌}
 use mathlib.Core.List.{List, ◌++◌}
 use native.Mathlib.Omega.{arith}
@@ -17,52 +17,38 @@ use Rattle.basics.proofs.ChoiceLaws.{and_true, within_true}
 use Rattle.basics.proofs.FillLaws.{rest_at, back_at, Filled, filled_part, rest_length}
 use Rattle.table.specs.declared.Task.{Task}
 use Rattle.table.specs.declared.Table.{Table}
-use Rattle.table.specs.declared.Checked.{Checked}
 use Rattle.table.specs.Limits.{max_tasks}
 use Rattle.table.specs.Empty.{no_groups, empty_task, empty_table}
 use Rattle.table.specs.At.{task_at}
 use Rattle.block.specs.declared.Head.{Head}
 use Rattle.block.specs.Block.{block_size, head_in, task_in}
 use Rattle.block.proofs.BlockLaws.{block_length}
-use Rattle.card.specs.Archive.{head_for, block_for, archive_of, is_length, block_at, blocks_in, block_fault, block_fault_at, table_in}
+use Rattle.card.specs.Archive.{head_for, block_for, archive_of, is_length, block_at, blocks_in, table_in}
 
--- ---- a block of an archive, as `&a[512 * i..512 * i + 512]` is handed on
+-- ---- the table, filled with the tasks of the first i blocks
 
-part_is : (a : List ℕ) (i : ℕ) → take (512 * i + 512 - 512 * i) (drop (512 * i) a) ≡ block_at a i
-part_is a i = let e : 512 * i + 512 - 512 * i ≡ 512 = omega arith in rw e
-
-module _ (a : List ℕ) (n : ℕ) (l : length a ≡ 512 * n) where
-  pub blocks_are : blocks_in a ≡ n
-  blocks_are = omega arith
-
-  -- what is found of it is what the definition says of block i + 1
-  pub block_found : (i : ℕ) {first : Head} {c : Checked} → first ≡ head_in (take 512 a)
-      → c ≡ block_fault first n (i + 1) (take (512 * i + 512 - 512 * i) (drop (512 * i) a)) → block_fault_at a i ≡ c
-  block_found i e f = rw blocks_are (sym (f ∙ rw (e, part_is a i)))
-
-  -- ---- the table, filled with the tasks of the first i blocks
-
+module _ (a : List ℕ) where
   abbrev pub table_to : ℕ → Table
   table_to i =
       record {
         cpus = (head_in (block_at a 0)).cpus;
-        n = n;
+        n = blocks_in a;
         groups = no_groups;
         tasks = row_to i (λ j. task_in (block_at a j)) ++ drop i (replicate max_tasks empty_task);
       }
 
-  pub table_start : {t : Table} {h : Head} → t ≡ empty_table → h ≡ head_in (take 512 a) → record { cpus = h.cpus; n = n; groups = t.groups; tasks = t.tasks } ≡ table_to 0
+  pub table_start : {t : Table} {h : Head} → t ≡ empty_table → h ≡ head_in (take 512 a) → record { cpus = h.cpus; n = blocks_in a; groups = t.groups; tasks = t.tasks } ≡ table_to 0
   unfolding empty_table
   table_start e f = rw (e, f, ← over_none (λ j. task_in (block_at a j)) (replicate max_tasks empty_task))
 
-  pub table_more : (i : ℕ) {t : Table} {x : Task} → i < max_tasks → t ≡ table_to i → x ≡ task_in (take (512 * i + 512 - 512 * i) (drop (512 * i) a))
+  pub table_more : (i : ℕ) {t : Table} {x : Task} → i < max_tasks → t ≡ table_to i → x ≡ task_in (block_at a i)
       → record { cpus = t.cpus; n = t.n; groups = t.groups; tasks = set t.tasks i x } ≡ table_to (i + 1)
   table_more i h e f =
-      rw (e, f, part_is a i, over_more (λ j. task_in (block_at a j)) i (replicate max_tasks empty_task) (omega (arith, length-replicate max_tasks empty_task)))
+      rw (e, f, over_more (λ j. task_in (block_at a j)) i (replicate max_tasks empty_task) (omega (arith, length-replicate max_tasks empty_task)))
 
-  pub table_done : n ≤ max_tasks → table_to n ≡ table_in a
+  pub table_done : blocks_in a ≤ max_tasks → table_to (blocks_in a) ≡ table_in a
   unfolding table_in
-  table_done h = rw (blocks_are, over_same (λ j. task_in (block_at a j)) empty_task n max_tasks h)
+  table_done h = rw (over_same (λ j. task_in (block_at a j)) empty_task (blocks_in a) max_tasks h)
 
 -- ---- the blocks of a table, put one after the other
 

@@ -12,9 +12,9 @@ use Rattle.basics.specs.Choice.{pick}
 use Rattle.basics.specs.Over.{row_to}
 use Rattle.basics.proofs.RowLaws.{row_length, row_at}
 use Rattle.table.specs.declared.Fault.TheVariants.{BadLength}
-use Rattle.table.specs.declared.Checked.{Checked}
-use Rattle.table.specs.declared.Checked.TheVariants.{Fine, Refused}
-use Rattle.table.specs.declared.Reading.{Reading}
+use Rattle.table.specs.Faults.{Checked}
+use Rattle.std.specs.Prelude.{Ok, Err}
+use Rattle.table.specs.Answers.{answer_of, table_from}
 use Rattle.table.specs.declared.Task.{Task}
 use Rattle.table.specs.declared.Table.{Table}
 use Rattle.table.specs.Limits.{max_tasks, max_resources}
@@ -27,22 +27,22 @@ use Rattle.table.proofs.FirstLaws.{then_fine}
 use Rattle.block.specs.Block.{task_in}
 use Rattle.card.specs.Archive.{block_at, blocks_in, is_length, blocks_fault, table_in, archive_fault, read_archive}
 
-pub answer_is : (a : List ℕ) → (read_archive a).answer ≡ archive_fault a
+pub answer_is : (a : List ℕ) → answer_of (read_archive a) ≡ archive_fault a
 unfolding read_archive
 answer_is a = go (archive_fault a)
   where
-    go : (c : Checked) → (or_table c (table_in a)).answer ≡ c
-    go Fine = refl
-    go (Refused r) = refl
+    go : (c : Checked) → answer_of (or_table c (table_in a)) ≡ c
+    go (Ok _) = refl
+    go (Err r) = refl
 
 -- what is accepted has no fault, and is read as what it says
-pub accepted_is : (a : List ℕ) (t : Table) → read_archive a ≡ accepted t → (archive_fault a ≡ Fine) × (table_in a ≡ t)
+pub accepted_is : (a : List ℕ) (t : Table) → read_archive a ≡ accepted t → (archive_fault a ≡ Ok tt) × (table_in a ≡ t)
 unfolding read_archive
 accepted_is a t e = go (archive_fault a) refl e
   where
-    go : (c : Checked) → archive_fault a ≡ c → or_table c (table_in a) ≡ accepted t → (c ≡ Fine) × (table_in a ≡ t)
-    go Fine f q = (refl, ap (λ (r : Reading). r.table) q)
-    go (Refused r) f q = let e : Refused r ≡ Fine = ap (λ (x : Reading). x.answer) q in let z : ◌≡◌ {A = ℕ} 0 1 = cc in absurd (omega arith)
+    go : (c : Checked) → archive_fault a ≡ c → or_table c (table_in a) ≡ accepted t → (c ≡ Ok tt) × (table_in a ≡ t)
+    go (Ok _) f q = (refl, ap table_from q)
+    go (Err r) f q = let e : Err r ≡ Ok tt = ap answer_of q in let z : ◌≡◌ {A = ℕ} 0 1 = cc in absurd (omega arith)
 
 -- a card has no groups
 pub card_ungrouped : (a : List ℕ) → NoGroup (table_in a)
@@ -67,7 +67,7 @@ card_none a i h = go (dec_lt i max_tasks)
     go (no d) = ap (λ (x : Task). x.alpha) (get_or-eq_default (row_to max_tasks tasks) no_task (omega (arith, row_length max_tasks tasks)))
 
 -- the table's own refusals come last, so there are none
-pub accepted_passes : (a : List ℕ) (t : Table) → read_archive a ≡ accepted t → table_fault t ≡ Fine
+pub accepted_passes : (a : List ℕ) (t : Table) → read_archive a ≡ accepted t → table_fault t ≡ Ok tt
 unfolding archive_fault
 accepted_passes a t e =
     let p = accepted_is a t e in

@@ -4,9 +4,9 @@ use Rattle.basics.specs.Choice.{pick, within}
 use Rattle.basics.specs.Over.{join_to, row_to}
 use Rattle.table.specs.declared.Table.{Table}
 use Rattle.table.specs.declared.Fault.TheVariants.{TooShort, BadLength, BadBlock, Mismatch, HasGroup}
-use Rattle.table.specs.declared.Checked.{Checked}
-use Rattle.table.specs.declared.Reading.{Reading}
-use Rattle.table.specs.declared.Written.{Written}
+use Rattle.table.specs.Faults.{Checked}
+use Rattle.table.specs.Answers.{Reading}
+use Rattle.table.specs.Answers.{Written}
 use Rattle.table.specs.Limits.{max_tasks}
 use Rattle.table.specs.Empty.{no_groups, empty_task}
 use Rattle.table.specs.At.{task_at}

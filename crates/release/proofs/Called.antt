@@ -9,11 +9,11 @@ use native.Mathlib.Omega.{arith}
 use lib.ListN.{length}
 use Rattle.table.specs.declared.Fault.TheVariants.{BadLength, BadBlock, Mismatch}
 use Rattle.table.specs.declared.Refusal.{Refusal}
-use Rattle.table.specs.declared.Checked.{Checked}
-use Rattle.table.specs.declared.Checked.TheVariants.{Fine, Refused}
+use Rattle.table.specs.Faults.{Checked}
+use Rattle.std.specs.Prelude.{Ok, Err}
 use Rattle.table.specs.Faults.{Refuses, ◌then◌, unless, first_fault}
 use Rattle.table.specs.Empty.{empty_table}
-use Rattle.table.specs.Answers.{or_table}
+use Rattle.table.specs.Answers.{or_table, answer_of, table_from}
 use Rattle.table.specs.Rules.{table_fault}
 use Rattle.table.proofs.Deciding.{two_decide, many_decide, rule_is, is_rule, fails, failing}
 use Rattle.table.proofs.Called.{refused_as_called as table-refused, number_few}
@@ -38,7 +38,7 @@ module _ (a : List ℕ) (w : Whole a (blocks_in a)) (i : ℕ) (h : i < blocks_in
       test = agrees (head_in (block_at a 0)) (blocks_in a) (i + 1) (head_in (block_at a i))
 
       go : Refuses (unless (good_block (block_at a i)) BadBlock (i + 1)) k p
-          ⊎ ((unless (good_block (block_at a i)) BadBlock (i + 1) ≡ Fine) × Refuses (unless test Mismatch (i + 1)) k p) → CallsFor a k p
+          ⊎ ((unless (good_block (block_at a i)) BadBlock (i + 1) ≡ Ok tt) × Refuses (unless test Mismatch (i + 1)) k p) → CallsFor a k p
       go (inl y) =
           let r = rule_is (good_block (block_at a i)) BadBlock (i + 1) k p y in
           rw (← r.1, ← r.2) (bad_block (blocks_in a) i w h before (fails _ (is_good (block_at a i)) r.0))
@@ -53,13 +53,13 @@ refused_calls a k p x = go ((two_decide (unless (is_length (length a)) BadLength
     blocks : Checked
     blocks = first_fault (blocks_in a) (block_fault_at a)
 
-    later : Whole a (blocks_in a) → Refuses blocks k p ⊎ ((blocks ≡ Fine) × Refuses (table_fault (table_in a)) k p) → CallsFor a k p
+    later : Whole a (blocks_in a) → Refuses blocks k p ⊎ ((blocks ≡ Ok tt) × Refuses (table_fault (table_in a)) k p) → CallsFor a k p
     later w (inl y) =
         let f = (many_decide (blocks_in a) (block_fault_at a) k p).0 y in
         block_calls a w f.0 f.1 (λ j l. block_good a j (f.3 j l)) k p f.2
     later w (inr y) = table (blocks_in a) w (λ j l. block_good a j (each_fine (blocks_in a) (block_fault_at a) y.0 j l)) ((table-refused.refused (table_in a) k p).0 y.1)
 
-    go : Refuses (unless (is_length (length a)) BadLength 0) k p ⊎ ((unless (is_length (length a)) BadLength 0 ≡ Fine) × Refuses (blocks then table_fault (table_in a)) k p) → CallsFor a k p
+    go : Refuses (unless (is_length (length a)) BadLength 0) k p ⊎ ((unless (is_length (length a)) BadLength 0 ≡ Ok tt) × Refuses (blocks then table_fault (table_in a)) k p) → CallsFor a k p
     go (inl y) =
         let r = rule_is (is_length (length a)) BadLength 0 k p y in
         rw (← r.1, ← r.2) (bad_length (λ n. fails _ (is_whole a n) r.0))
@@ -113,13 +113,13 @@ called_number a _ _ (mismatch n i w h before g x) = inr (omega arith, omega arit
 called_number a k p (table n w all x) = let e = whole_blocks w in inl (number_few {t = table_in a} (card_none a) (rw e w.least, rw e w.most) x)
 
 -- a refused reading gives no table
-pub archive_empty : (a : List ℕ) (r : Refusal) → (read_archive a).answer ≡ Refused r → (read_archive a).table ≡ empty_table
+pub archive_empty : (a : List ℕ) (r : Refusal) → answer_of (read_archive a) ≡ Err r → table_from (read_archive a) ≡ empty_table
 unfolding read_archive
 archive_empty a r = go (archive_fault a)
   where
-    go : (c : Checked) → (or_table c (table_in a)).answer ≡ Refused r → (or_table c (table_in a)).table ≡ empty_table
-    go Fine e = let z : ◌≡◌ {A = ℕ} 0 1 = cc in absurd (omega arith)
-    go (Refused x) e = refl
+    go : (c : Checked) → answer_of (or_table c (table_in a)) ≡ Err r → table_from (or_table c (table_in a)) ≡ empty_table
+    go (Ok _) e = let z : ◌≡◌ {A = ℕ} 0 1 = cc in absurd (omega arith)
+    go (Err x) e = refl
 
 pub refused_as_called : RefusedAsCalled
 refused_as_called =

@@ -9,7 +9,7 @@ use native.Mathlib.Decide.{ℕ_discrete, dec_lt}
 use lib.ListN.{length, set, take, drop, length-set, get_or-eq_default}
 use lib.Seq.{length-take-le, get_or-take, get_or-set_same, get_or-set_other, take-set-le, take-set-lt, drop-set-add, get_or-drop}
 use Rattle.table.specs.declared.Fault.TheVariants.{BadBlock}
-use Rattle.table.specs.declared.Checked.TheVariants.{Fine}
+use Rattle.std.specs.Prelude.{Ok}
 use Rattle.table.specs.Faults.{at}
 use Rattle.table.proofs.FirstLaws.{first_fine, first_at}
 use Rattle.checksum.specs.Sum.{check_of}
@@ -96,7 +96,7 @@ module _ (a : List ℕ) (q r v : ℕ) where
     blocks_same : blocks_in (set a (512 * q + r) v) ≡ blocks_in a
     blocks_same = rw (length-set a (512 * q + r) v)
 
-    first_q : (i : ℕ) → i < q → block_fault_at (set a (512 * q + r) v) i ≡ Fine
+    first_q : (i : ℕ) → i < q → block_fault_at (set a (512 * q + r) v) i ≡ Ok tt
     first_q i d =
         let g = k.good i (omega (arith, there)) in
         rw (before_same a i q r v d, before_same a 0 q r v (omega arith), blocks_same) (block_fine a i g.0 g.1)

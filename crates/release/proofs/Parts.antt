@@ -13,7 +13,7 @@ use Rattle.basics.specs.Over.{join_to}
 use Rattle.basics.proofs.ChoiceLaws.{within_in}
 use Rattle.basics.proofs.JoinLaws.{join_none, join_more, join_at, join_even}
 use Rattle.table.specs.declared.Fault.TheVariants.{BadLength, BadBlock, Mismatch}
-use Rattle.table.specs.declared.Checked.TheVariants.{Fine}
+use Rattle.std.specs.Prelude.{Ok}
 use Rattle.table.specs.Limits.{max_tasks}
 use Rattle.table.specs.Faults.{unless, first_fault}
 use Rattle.table.specs.Rules.{table_fault}
@@ -74,13 +74,13 @@ is_whole a n w =
     rw (eq-eqb (length a % 512) 0 (omega (arith, w.long)), q, within_in 1 max_tasks n w.least w.most)
 
 module _ (a : List ℕ) (i : ℕ) where
-  pub block_good : block_fault_at a i ≡ Fine → GoodBlock (block_at a i) × InPlace a (blocks_in a) i
+  pub block_good : block_fault_at a i ≡ Ok tt → GoodBlock (block_at a i) × InPlace a (blocks_in a) i
   unfolding block_fault
   block_good e =
       let p = then_fine (unless (good_block (block_at a i)) BadBlock (i + 1)) _ e in
       (good_is (block_at a i) (unless_fine _ BadBlock (i + 1) p.0), agrees_is a (blocks_in a) i (unless_fine _ Mismatch (i + 1) p.1))
 
-  pub block_fine : GoodBlock (block_at a i) → InPlace a (blocks_in a) i → block_fault_at a i ≡ Fine
+  pub block_fine : GoodBlock (block_at a i) → InPlace a (blocks_in a) i → block_fault_at a i ≡ Ok tt
   unfolding block_fault
   block_fine g p = rw (is_good (block_at a i) g, is_agreed a (blocks_in a) i p)
 
@@ -90,9 +90,9 @@ module _ (a : List ℕ) (i : ℕ) where
 pub record Kept (a : List ℕ) : Type 0 where
   pub whole : Whole a (blocks_in a)
   pub good : FirstGood a (blocks_in a) (blocks_in a)
-  pub table : table_fault (table_in a) ≡ Fine
+  pub table : table_fault (table_in a) ≡ Ok tt
 
-pub fine_kept : (a : List ℕ) → archive_fault a ≡ Fine → Kept a
+pub fine_kept : (a : List ℕ) → archive_fault a ≡ Ok tt → Kept a
 unfolding archive_fault blocks_fault
 fine_kept a e =
     let p = then_fine (unless (is_length (length a)) BadLength 0) _ e in
@@ -103,7 +103,7 @@ fine_kept a e =
       table = q.1;
     }
 
-pub kept_fine : (a : List ℕ) → Kept a → archive_fault a ≡ Fine
+pub kept_fine : (a : List ℕ) → Kept a → archive_fault a ≡ Ok tt
 unfolding archive_fault blocks_fault
 kept_fine a k =
     rw (

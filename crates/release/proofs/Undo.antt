@@ -14,7 +14,7 @@ use Rattle.basics.proofs.RowLaws.{row_at, row_is, row_eq}
 use Rattle.basics.proofs.ChoiceLaws.{pick_when}
 use Rattle.table.specs.declared.Task.{Task}
 use Rattle.table.specs.declared.Table.{Table}
-use Rattle.table.specs.declared.Checked.TheVariants.{Fine}
+use Rattle.std.specs.Prelude.{Ok}
 use Rattle.table.specs.Limits.{max_tasks, max_resources}
 use Rattle.table.specs.Empty.{no_groups, empty_task}
 use Rattle.table.specs.At.{no_task, task_at, group_at, NoGroup, pair_of, SameTask}
@@ -45,7 +45,7 @@ use Rattle.release.proofs.Parts.{part_of_lem, parts_joined, block_bytes, whole_b
 no_groups_lem : (t : Table) → NoGroup t → no_groups ≡ row_to max_resources (group_at t)
 no_groups_lem t z = row_is max_resources (group_at t) 0 no_groups (length-replicate {A = ℕ} max_resources 0) (λ k h. get_or-replicate max_resources k 0 0 h ∙ sym (z k h))
 
-module _ (t : Table) (e : table_fault t ≡ Fine) (z : NoGroup t) where
+module _ (t : Table) (e : table_fault t ≡ Ok tt) (z : NoGroup t) where
   good : Accepted t
   good = fine_accepted t e
 

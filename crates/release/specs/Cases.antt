@@ -5,7 +5,7 @@ use Rattle.table.specs.declared.Fault.TheVariants.{OutOfRange, BadTimes, BadLeng
 use Rattle.table.specs.Empty.{unused_pair}
 use Rattle.table.specs.At.{a_pair, a_task, a_table}
 use Rattle.table.specs.Faults.{at}
-use Rattle.table.specs.Answers.{accepted}
+use Rattle.table.specs.Answers.{accepted, answer_of}
 use Rattle.table.specs.Cleared.{cleared}
 use Rattle.block.specs.declared.Head.{Head}
 use Rattle.block.specs.Block.{block_of, good_block, head_in, task_in}
@@ -69,7 +69,7 @@ pub record CasesHold : Type 0 where
   -- an archive, and what it is read as
   pub archive : read_archive archive_A ≡ accepted (cleared (a_table 2 3 (task_with 10_000 2_500 10_000 1 500 500 ∷ task_with 20_000 4_000 15_000 0 0 0 ∷ task_with 30_000 6_000 30_000 2 750 1_500 ∷ [])))
   -- the refusals, in their order
-  pub refusals : map (λ (a : List ℕ). (read_archive a).answer)
+  pub refusals : map (λ (a : List ℕ). answer_of (read_archive a))
       -- 12: no byte, a byte less and a byte more than a block, 33 blocks
       ([]
       ∷ drop 1 one

@@ -1,7 +1,7 @@
 -- Request 2/12 of document 02, its refusals said a second way: what a good block is and what it is to be in place, and the number and the place that an archive calls for.
 use Rattle.std.specs.Prelude.{ℕ, ◌+◌, ◌*◌, ◌≤◌, ◌<◌, ◌≡◌, ◌⊎◌, List, length, take}
 use Rattle.basics.specs.Exactly.{◌exactly_if◌}
-use Rattle.table.specs.declared.Checked.TheVariants.{Fine}
+use Rattle.std.specs.Prelude.{Ok}
 use Rattle.table.specs.Limits.{max_tasks}
 use Rattle.table.specs.Faults.{Refuses}
 use Rattle.table.specs.Accepted.{Accepted}
@@ -10,6 +10,7 @@ use Rattle.checksum.specs.Sum.{check_of}
 use Rattle.block.specs.Numbers.{byte_at, number_at}
 use Rattle.block.specs.Block.{block_size}
 use Rattle.card.specs.Archive.{block_at, table_in, read_archive}
+use Rattle.table.specs.Answers.{answer_of}
 
 -- "1 to 32 whole blocks"
 pub record Whole (a : List ℕ) (n : ℕ) : Type 0 where
@@ -50,8 +51,8 @@ pub data CallsFor (a : List ℕ) : ℕ → ℕ → Type 0 where
 -- ---- the two agree
 
 pub record RefusedAsCalled : Type 0 where
-  pub refused : (a : List ℕ) (number place : ℕ) → Refuses (read_archive a).answer number place exactly_if CallsFor a number place
+  pub refused : (a : List ℕ) (number place : ℕ) → Refuses (answer_of (read_archive a)) number place exactly_if CallsFor a number place
   -- and accepted exactly if nothing is called for
-  pub accepted : (a : List ℕ) → ((read_archive a).answer ≡ Fine) exactly_if ((n : ℕ) × Whole a n × FirstGood a n n × Accepted (table_in a))
+  pub accepted : (a : List ℕ) → (answer_of (read_archive a) ≡ Ok tt) exactly_if ((n : ℕ) × Whole a n × FirstGood a n n × Accepted (table_in a))
   -- neither 8 nor 9 is among the table's own here: there are 1 to 32 blocks, and n is how many; nor 17 nor 18: a card has no alpha; 19 is a line's, and 20 a writer's
-  pub numbers : (a : List ℕ) (number place : ℕ) → Refuses (read_archive a).answer number place → (number ≤ 7) ⊎ ((12 ≤ number) × (number ≤ 14))
+  pub numbers : (a : List ℕ) (number place : ℕ) → Refuses (answer_of (read_archive a)) number place → (number ≤ 7) ⊎ ((12 ≤ number) × (number ≤ 14))

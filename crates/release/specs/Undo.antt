@@ -2,11 +2,11 @@
 -- A card of version 1 has no groups, and a table that has one is not written (request 9/12, 20).
 use Rattle.std.specs.Prelude.{ℕ, ◌+◌, ◌/◌, ◌<◌, ◌≡◌, List, length, set}
 use Rattle.table.specs.declared.Table.{Table}
-use Rattle.table.specs.declared.Checked.TheVariants.{Fine}
+use Rattle.std.specs.Prelude.{Ok}
 use Rattle.table.specs.At.{NoAlpha, NoGroup, Same}
 use Rattle.table.specs.Faults.{Refuses}
 use Rattle.table.specs.Rules.{table_fault}
-use Rattle.table.specs.Answers.{accepted}
+use Rattle.table.specs.Answers.{accepted, answer_of}
 use Rattle.table.specs.Cleared.{cleared}
 use Rattle.table.specs.Without.{without_alpha, SameButAlpha}
 use Rattle.block.specs.Numbers.{byte_at}
@@ -19,11 +19,11 @@ Bytes s = (i : ℕ) → byte_at s i < 256
 
 -- the archive of an accepted table is read as that table, with zeros past the nth task: "its round trip is for tables without alpha" (request 8/12), and without groups
 abbrev pub ReadsBack : Type 0
-ReadsBack = (t : Table) → table_fault t ≡ Fine → NoAlpha t → NoGroup t → read_archive (archive_of t) ≡ accepted (cleared t)
+ReadsBack = (t : Table) → table_fault t ≡ Ok tt → NoAlpha t → NoGroup t → read_archive (archive_of t) ≡ accepted (cleared t)
 
 -- and of any accepted table without groups as the same one without its alphas: "The archive drops it"
 abbrev pub DropsAlpha : Type 0
-DropsAlpha = (t : Table) → table_fault t ≡ Fine → NoGroup t → read_archive (archive_of t) ≡ accepted (cleared (without_alpha t))
+DropsAlpha = (t : Table) → table_fault t ≡ Ok tt → NoGroup t → read_archive (archive_of t) ≡ accepted (cleared (without_alpha t))
 
 -- two tables that differ in alpha alone have one archive, also where they have groups, so that none is written of either
 abbrev pub AlphaAlone : Type 0
@@ -49,10 +49,10 @@ abbrev pub ReadsUngrouped : Type 0
 ReadsUngrouped = (a : List ℕ) (t : Table) → read_archive a ≡ accepted t → NoGroup t
 
 abbrev pub PassesCheck : Type 0
-PassesCheck = (a : List ℕ) (t : Table) → read_archive a ≡ accepted t → table_fault t ≡ Fine
+PassesCheck = (a : List ℕ) (t : Table) → read_archive a ≡ accepted t → table_fault t ≡ Ok tt
 
 -- one changed byte never goes unnoticed: an accepted archive with any one byte changed is refused with 13 at that byte's block
 abbrev pub Noticed : Type 0
 Noticed =
     (a : List ℕ) (t : Table) (j v : ℕ) → Bytes a → read_archive a ≡ accepted t → j < length a → v < 256 → (v ≡ byte_at a j → ⊥)
-    → Refuses (read_archive (set a j v)).answer 13 (j / block_size + 1)
+    → Refuses (answer_of (read_archive (set a j v))) 13 (j / block_size + 1)

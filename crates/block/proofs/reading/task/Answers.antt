@@ -1,19 +1,12 @@
-use mathlib.Core.Path.{◌≡◌}
-use mathlib.Core.List.{append-nil}
-use native.Mathlib.Omega.{arith}
-use Rattle.basics.proofs.RowLaws.{over_none, over_more}
-use Rattle.block.specs.Block.{task_in}
+-- `block::reading::task` meets its contract: the call at k makes the pair of resource k + 1. Assumes nothing.
+use Rattle.std.proofs.Common.{rules}
+use Rattle.basics.proofs.MadeLaws.{row_made}
+use Rattle.table.specs.Empty.{unused_pair}
+use Rattle.block.specs.Block.{pair_in, task_in}
 use Rattle.block.proofs.reading.task.Goals as goal
-
-pub loop-k-init : goal.loop-k-init
-loop-k-init c = (omega arith, over_none _ _)
-
-pub loop-k-preserved : goal.loop-k-preserved
-loop-k-preserved c =
-    (omega arith, rw (c.loop-k.invariant.1, c.pair.ensures) (over_more _ _ _ (omega arith)))
 
 pub returns : goal.returns
 unfolding task_in
 returns c =
-    let e : c.loop-k.k ≡ 16 = omega arith in
-    rw (c.four.ensures, c.four-2.ensures, c.four-3.ensures, c.loop-k.invariant.1, e, append-nil)
+    let p = c.from_fn-pairs in
+    rw (c.four.ensures, c.four-2.ensures, c.four-3.ensures, row_made _ _ (pair_in c.args.s.now) 16 p.result unused_pair p.ensures.items (λ i y q z. search rules))

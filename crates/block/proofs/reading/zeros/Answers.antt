@@ -1,27 +1,44 @@
-use Prim.Native.Nat.{◌+◌, ◌<◌}
-use mathlib.Core.Path.{◌≡◌}
+-- `block::reading::zeros` meets its contract: the `|` of some bytes is 0 exactly if each of them is. Assumes nothing.
+use Prim.Native.Nat.{ℕ, zero, suc, ◌+◌, ◌-◌, ◌≤◌}
+use mathlib.Core.Path.{◌≡◌, refl, ◌∙◌}
+use mathlib.Core.Bool.{◌&&◌}
+use mathlib.Core.List.{List}
 use native.Mathlib.Omega.{arith}
-use Rattle.basics.proofs.SumLaws.{sum_none, sum_more}
-use Rattle.basics.proofs.AllLaws.{all_zero}
-use Rattle.block.specs.Numbers.{byte_at}
+use native.Mathlib.Numerals.{add-one}
+use native.Mathlib.Decide.{ℕ_discrete}
+use borrow.Author.Tests.{ne_eqb}
+use lib.Bits.{bit_or}
+use lib.Dec.{eqb}
+use lib.ListN.{get_or, length, take, drop, length-drop}
+use lib.Seq.{get_or-drop}
+use Rattle.std.specs.List.{fold}
+use Rattle.std.proofs.lemmas.List.Sums.{fold_more}
+use Rattle.std.proofs.lemmas.Nat.{or_disjoint, le_or_l}
+use Rattle.basics.specs.Over.{all_to}
+use Rattle.block.specs.Block.{zeros_at}
+use Rattle.std.proofs.Common.{rules}
 use Rattle.block.proofs.reading.zeros.Goals as goal
-use Rattle.block.proofs.reading.zeros.Goals.{After-shared_slice_known-1}
 
--- the byte is one
-fits : (c : goal.After-shared_slice_known-1) → byte_at c.args.s.now (c.args.at + c.loop-j.j) < 256
-fits c = omega (arith, c.shared_slice_known-1.given (c.args.at + c.loop-j.j))
+or_zero : (a b : ℕ) → eqb (bit_or a b) 0 ≡ (eqb a 0 && eqb b 0)
+or_zero a b = go (ℕ_discrete a 0)
+  where
+    go : Dec (a ≡ 0) → eqb (bit_or a b) 0 ≡ (eqb a 0 && eqb b 0)
+    go (yes e) = rw (e, or_disjoint 0 b refl)
+    go (no d) = rw (ne_eqb a 0 d, ne_eqb (bit_or a b) 0 (λ e. omega (arith, le_or_l a b)))
 
-pub loop-j-init : goal.loop-j-init
-loop-j-init c = (omega arith, omega arith, sum_none _)
+zeros_to : (s : List ℕ) (at k : ℕ) → at + k ≤ length s → eqb (fold bit_or 0 (take k (drop at s))) 0 ≡ zeros_at s at k
+unfolding all_to
+zeros_to s at zero h = refl
+zeros_to s at (suc k) h =
+    rw (← add-one k, fold_more bit_or 0 (drop at s) k 0 (omega (arith, length-drop at s)), get_or-drop at s k 0)
+    (or_zero (fold bit_or 0 (take k (drop at s))) (get_or s (at + k) 0) ∙ rw (zeros_to s at k (omega arith)))
 
-pub overflow_add-sum-in-loop-j : goal.overflow_add-sum-in-loop-j
-overflow_add-sum-in-loop-j c = omega (arith, fits (goal.at.overflow_add-sum-in-loop-j c).After-shared_slice_known-1)
-
-pub loop-j-preserved : goal.loop-j-preserved
-loop-j-preserved c =
-    (omega arith, omega (arith, fits (goal.at.loop-j-preserved c).After-shared_slice_known-1), rw (sum_more, c.loop-j.invariant.2))
+-- `&s[at..at + k]`
+zeros_part : (s : List ℕ) (at k : ℕ) → at + k ≤ length s → eqb (fold bit_or 0 (take (at + k - at) (drop at s))) 0 ≡ zeros_at s at k
+zeros_part s at k h = let e : at + k - at ≡ k = omega arith in rw e (zeros_to s at k h)
 
 pub returns : goal.returns
 returns c =
-    let e : c.loop-j.j ≡ c.args.k = omega arith in
-    rw (c.loop-j.invariant.2, e) (all_zero _ _)
+    let a = c.args in
+    let e : c.fold.result ≡ fold bit_or 0 (take (a.at + a.k - a.at) (drop a.at a.s.now)) = search rules in
+    rw e (zeros_part a.s.now a.at a.k c.requires.0)

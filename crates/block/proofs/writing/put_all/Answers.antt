@@ -20,7 +20,7 @@ pub returns : goal.returns
 unfolding block_of
 returns c =
     let a = c.args in
-    let body = body_of a.h a.x in
+    let body = body_of a.h a.x.now in
     let f₁ = put_first a.out.now body (body_length _ _) c.put_body.auto.out c.put_body.ensures in
     let e = c.check_of-check.ensures ∙ ap (λ (s : List ℕ). check_of (take 510 s)) f₁.holds ∙ ap check_of (take_at body _ 510 (body_length _ _)) in
-    put_is (block_of a.h a.x) (put_next f₁ (in_bytes 2 c.check_of-check.result) (bytes_length 2 _) (omega arith) c.put_two.auto.out c.put_two.ensures) (rw e)
+    put_is (block_of a.h a.x.now) (put_next f₁ (in_bytes 2 c.check_of-check.result) (bytes_length 2 _) (omega arith) c.put_two.auto.out c.put_two.ensures) (rw e)

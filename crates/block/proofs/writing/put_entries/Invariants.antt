@@ -1,5 +1,5 @@
 -- `block::writing::put_entries` meets its contract. The loop's invariant: the output is filled with the entries of the resources passed. Assumes nothing.
-use Prim.Native.Nat.{◌*◌, ◌-◌, ◌≤◌}
+use Prim.Native.Nat.{◌*◌}
 use Rattle.basics.specs.Over.{join_to}
 use Rattle.basics.proofs.FillLaws.{Filled}
 use Rattle.table.specs.At.{pair_of}
@@ -7,7 +7,4 @@ use Rattle.block.specs.Block.{entry_bytes}
 use Rattle.block.proofs.writing.put_entries.Given as goal
 
 abbrev pub invariant-loop-k : goal.invariant-loop-k
-invariant-loop-k l = (l.k ≤ 16) × Filled l.fn.out l.out (join_to l.k (λ j. entry_bytes (pair_of l.x j))) (10 * l.k)
-
-abbrev pub decreases-loop-k : goal.decreases-loop-k
-decreases-loop-k l = 16 - l.k
+invariant-loop-k l = Filled l.fn.out l.out (join_to l.k (λ j. entry_bytes (pair_of l.x j))) (10 * l.k)

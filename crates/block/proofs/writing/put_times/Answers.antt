@@ -11,7 +11,7 @@ pub returns : goal.returns
 unfolding times_bytes
 returns c =
     let a = c.args in
-    let x = a.x in
+    let x = a.x.now in
     let f₁ = put_first a.out.now (in_bytes 4 x.period) (bytes_length 4 _) c.put_four.auto.out c.put_four.ensures in
     let f₂ = put_next f₁ (in_bytes 4 x.run) (bytes_length 4 _) (omega arith) c.put_four-2.auto.out c.put_four-2.ensures in
     let f₃ = put_next f₂ (in_bytes 4 x.deadline) (bytes_length 4 _) (omega arith) c.put_four-3.auto.out c.put_four-3.ensures in

@@ -1,13 +1,11 @@
 -- `card::reading::check_blocks` meets its contract. The loop's invariant: none of the blocks passed has a fault. Assumes nothing.
-use Prim.Native.Nat.{◌-◌, ◌≤◌}
-use mathlib.Core.Path.{◌≡◌}
-use Rattle.table.specs.declared.Checked.TheVariants.{Fine}
+use Rattle.std.proofs.Common.{◌≡◌, Ok}
 use Rattle.table.specs.Faults.{first_fault}
 use Rattle.card.specs.Archive.{block_fault_at}
+use Rattle.card.proofs.WalkLaws.{Passed}
 use Rattle.card.proofs.reading.check_blocks.Given as goal
 
 abbrev pub invariant-loop-i : goal.invariant-loop-i
-invariant-loop-i l = (l.i ≤ l.n) × (first_fault l.i (block_fault_at l.a) ≡ Fine)
-
-abbrev pub decreases-loop-i : goal.decreases-loop-i
-decreases-loop-i l = l.n - l.i
+invariant-loop-i l =
+    let k = l.i-iterator.count in
+    Passed l.a k l.i-iterator.iter.rest.now l.i-iterator.iter.size × (first_fault k (block_fault_at l.a) ≡ Ok tt)
