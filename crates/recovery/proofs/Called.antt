@@ -10,10 +10,9 @@ use native.Mathlib.Decide.{dec_lt}
 use borrow.Author.Tests.{le-leb, lt-leb}
 use lib.ListN.{length}
 use Rattle.table.specs.declared.Fault.TheVariants.{TooShort, Mismatch, BadCard}
-use Rattle.table.specs.declared.Checked.{Checked}
-use Rattle.table.specs.declared.Checked.TheVariants.{Fine}
+use Rattle.table.specs.Faults.{Checked, Refuses, unless}
+use Rattle.std.specs.Prelude.{Ok}
 use Rattle.table.specs.Limits.{max_tasks}
-use Rattle.table.specs.Faults.{Refuses, unless}
 use Rattle.table.specs.Rules.{table_fault}
 use Rattle.table.specs.Accepted.{Accepted}
 use Rattle.table.proofs.Deciding.{two_decide, is_rule, from_rule, from_two, fails, failing}
@@ -119,13 +118,13 @@ module _ (s : List ℕ) (entries room : ℕ) where
   abbrev Calm : Type 0
   Calm = (k : ℕ) × (n : ℕ) × (a : List ℕ) × WholeCard s k × Room s k entries room × Complete s k n × Ordered s k n a × Accepted (table_in a)
 
-  fine_calm : salvage_fault s entries room ≡ Fine → Calm
+  fine_calm : salvage_fault s entries room ≡ Ok tt → Calm
   fine_calm e =
       let x = fine_sound s entries room e in
       let c = complete_is s x.complete in
       (blocks_in s, _, mended s, x.whole, x.fits, c, (ordered s (mended s) (blocks_in s) _ x.whole c).1 refl, fine_accepted (table_in (mended s)) x.table)
 
-  calm_fine : Calm → salvage_fault s entries room ≡ Fine
+  calm_fine : Calm → salvage_fault s entries room ≡ Ok tt
   calm_fine (k, n, a, w, fits, c, o, g) =
       let e = sym (card_blocks w) in
       sound_fine s entries room

@@ -10,7 +10,7 @@ use lib.Dec.{leb}
 use lib.ListN.{length}
 use Rattle.basics.proofs.ChoiceLaws.{and_true, within_in}
 use Rattle.table.specs.declared.Fault.TheVariants.{TooShort, Mismatch, BadCard}
-use Rattle.table.specs.declared.Checked.TheVariants.{Fine}
+use Rattle.std.specs.Prelude.{Ok}
 use Rattle.table.specs.Faults.{unless}
 use Rattle.table.specs.Rules.{table_fault}
 use Rattle.table.proofs.FirstLaws.{then_fine}
@@ -42,13 +42,13 @@ module _ (s : List ℕ) where
     is_room r = rw (le-leb (blocks_in s) entries r.0, le-leb (length s) room r.1)
 
     -- neither 15 nor 11
-    pub room_fits : room_fault (length s) entries room ≡ Fine → WholeCard s (blocks_in s) × Room s (blocks_in s) entries room
+    pub room_fits : room_fault (length s) entries room ≡ Ok tt → WholeCard s (blocks_in s) × Room s (blocks_in s) entries room
     unfolding room_fault
     room_fits e =
         let p = then_fine (unless (is_card (length s)) BadCard 0) (unless (has_room (length s) entries room) TooShort 0) e in
         (card_is (unless_fine _ BadCard 0 p.0), room_is (unless_fine _ TooShort 0 p.1))
 
-    pub room_fine : WholeCard s (blocks_in s) → Room s (blocks_in s) entries room → room_fault (length s) entries room ≡ Fine
+    pub room_fine : WholeCard s (blocks_in s) → Room s (blocks_in s) entries room → room_fault (length s) entries room ≡ Ok tt
     unfolding room_fault
     room_fine w r = rw (is_card_lem (blocks_in s) w, is_room r)
 
@@ -57,9 +57,9 @@ module _ (s : List ℕ) where
       pub whole : WholeCard s (blocks_in s)
       pub fits : Room s (blocks_in s) entries room
       pub complete : is_complete s (codes_of s) ≡ true
-      pub table : table_fault (table_in (mended s)) ≡ Fine
+      pub table : table_fault (table_in (mended s)) ≡ Ok tt
 
-    pub fine_sound : salvage_fault s entries room ≡ Fine → Sound
+    pub fine_sound : salvage_fault s entries room ≡ Ok tt → Sound
     unfolding salvage_fault left_fault mended
     fine_sound e =
         let p = then_fine (room_fault (length s) entries room) (left_fault s (codes_of s)) e in
@@ -67,6 +67,6 @@ module _ (s : List ℕ) where
         let q = then_fine (unless (is_complete s (codes_of s)) Mismatch 0) (table_fault (table_in (mended s))) p.1 in
         record { whole = f.0; fits = f.1; complete = unless_fine _ Mismatch 0 q.0; table = q.1 }
 
-    pub sound_fine : Sound → salvage_fault s entries room ≡ Fine
+    pub sound_fine : Sound → salvage_fault s entries room ≡ Ok tt
     unfolding salvage_fault left_fault mended
     sound_fine x = rw (room_fine x.whole x.fits, x.complete) x.table

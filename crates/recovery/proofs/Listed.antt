@@ -7,9 +7,8 @@ use mathlib.Core.List.{List, ◌++◌}
 use native.Mathlib.Omega.{arith}
 use lib.ListN.{length, drop}
 use Rattle.table.specs.declared.Fault.TheVariants.{TooShort, Mismatch, BadCard}
-use Rattle.table.specs.declared.Checked.{Checked}
-use Rattle.table.specs.declared.Checked.TheVariants.{Fine, Refused}
-use Rattle.table.specs.Faults.{number_of, Refuses, unless}
+use Rattle.table.specs.Faults.{Checked, number_of, Refuses, unless}
+use Rattle.std.specs.Prelude.{Ok, Err}
 use Rattle.table.specs.Rules.{table_fault}
 use Rattle.table.proofs.Deciding.{rule_is, from_two, by_first}
 use Rattle.table.proofs.Called.{refused_as_called as table-refused, number_most}
@@ -25,19 +24,13 @@ module _ (s list : List ℕ) (room : ℕ) where
   early = room_fault (length s) (length list) room
 
   -- 15 and 11, with place 0
-  early_is : (k p : ℕ) → Refuses early k p → ((k ≡ 15) ⊎ (k ≡ 11)) × (p ≡ 0)
-  unfolding room_fault
-  early_is k p =
-      from_two (unless (is_card (length s)) BadCard 0) (unless (has_room (length s) (length list) room) TooShort 0) k p
-      (λ x. let r = rule_is (is_card (length s)) BadCard 0 k p x in (inl (sym r.1), sym r.2))
-      (λ _ x. let r = rule_is (has_room (length s) (length list) room) TooShort 0 k p x in (inr (sym r.1), sym r.2))
-
   early_number : (k p : ℕ) → Refuses early k p → Refuses early 15 0 ⊎ Refuses early 11 0
-  early_number k p x = go (early_is k p x)
-    where
-      go : ((k ≡ 15) ⊎ (k ≡ 11)) × (p ≡ 0) → Refuses early 15 0 ⊎ Refuses early 11 0
-      go (inl e, f) = inl (rw (← e, ← f) x)
-      go (inr e, f) = inr (rw (← e, ← f) x)
+  unfolding room_fault
+  early_number k p x =
+      from_two (unless (is_card (length s)) BadCard 0) (unless (has_room (length s) (length list) room) TooShort 0) k p
+      (λ y. let r = rule_is (is_card (length s)) BadCard 0 k p y in inl (rw (← r.1, ← r.2) at x))
+      (λ _ y. let r = rule_is (has_room (length s) (length list) room) TooShort 0 k p y in inr (rw (← r.1, ← r.2) at x))
+      x
 
   -- 14 and the table's own
   late_number : (k p : ℕ) → Refuses (left_fault s (codes_of s)) k p → (k ≡ 14) ⊎ (k ≤ 9)
@@ -52,7 +45,7 @@ module _ (s list : List ℕ) (room : ℕ) where
   unfolding listed
   kept_by k p x = rw x.1
 
-  written_by : early ≡ Fine → listed s list room ≡ codes_of s ++ drop (length (codes_of s)) list
+  written_by : early ≡ Ok tt → listed s list room ≡ codes_of s ++ drop (length (codes_of s)) list
   unfolding listed
   written_by e = rw e
 
@@ -70,7 +63,7 @@ unfolding salvage_fault
 list_written s list room m n = go (early s list room) refl
   where
     go : (c : Checked) → early s list room ≡ c → listed s list room ≡ codes_of s ++ drop (length (codes_of s)) list
-    go Fine e = written_by s list room e
-    go (Refused r) e =
+    go (Ok _) e = written_by s list room e
+    go (Err r) e =
         let x : Refuses (early s list room) (number_of r.fault) r.place = (r, e, record { number = refl; place = refl }) in
         absurd (⊎_elim (λ y. m (by_first (early s list room) _ 15 0 y)) (λ y. n (by_first (early s list room) _ 11 0 y)) (early_number s list room (number_of r.fault) r.place x))

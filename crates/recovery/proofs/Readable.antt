@@ -6,8 +6,7 @@ use mathlib.Core.List.{List}
 use native.Mathlib.Omega.{arith}
 use lib.ListN.{length}
 use lib.Seq.{take_at}
-use Rattle.table.specs.declared.Checked.TheVariants.{Fine}
-use Rattle.table.specs.declared.Written.TheVariants.{Wrote}
+use Rattle.std.specs.Prelude.{Ok}
 use Rattle.table.specs.Rules.{table_fault}
 use Rattle.table.proofs.Chain.{wrote_is}
 use Rattle.table.proofs.Acceptance.{fine_accepted}
@@ -47,7 +46,7 @@ module _ (s : List ℕ) (n : ℕ) (c : Complete s (blocks_in s) n) where
   mended_good : (p : ℕ) → p < n → GoodBlock (block_at (mended s) p)
   mended_good p h = rw (mended_block s n c p h) (placed s n c p h).1.0
 
-  mended_kept : table_fault (table_in (mended s)) ≡ Fine → Kept (mended s)
+  mended_kept : table_fault (table_in (mended s)) ≡ Ok tt → Kept (mended s)
   unfolding table_in
   mended_kept e =
       let g = fine_accepted (table_in (mended s)) e in
@@ -59,8 +58,8 @@ module _ (s : List ℕ) (n : ℕ) (c : Complete s (blocks_in s) n) where
 
 -- ---- what is written
 
-module _ (s out : List ℕ) (entries l : ℕ) (e : salvage_answer s entries (length out) ≡ Wrote l) where
-  wrote : (salvage_fault s entries (length out) ≡ Fine) × (length (mended s) ≡ l)
+module _ (s out : List ℕ) (entries l : ℕ) (e : salvage_answer s entries (length out) ≡ Ok l) where
+  wrote : (salvage_fault s entries (length out) ≡ Ok tt) × (length (mended s) ≡ l)
   unfolding salvage_answer
   wrote = wrote_is (salvage_fault s entries (length out)) e
 

@@ -3,7 +3,7 @@
 use Prim.Native.Nat.{ℕ, ◌+◌, ◌-◌, ◌<◌}
 use mathlib.Core.Path.{◌≡◌, refl, sym, ap, ◌∙◌}
 use mathlib.Core.Bool.{Bool}
-use mathlib.Core.Logic.{◌⊎◌, inl, inr}
+use mathlib.Core.Logic.{inr, ⊎_elim}
 use mathlib.Core.List.{List}
 use native.Mathlib.Omega.{arith}
 use native.Mathlib.Decide.{dec_lt}
@@ -12,7 +12,7 @@ use lib.Seq.{ext_get_or}
 use Rattle.basics.specs.Over.{first_to}
 use Rattle.basics.proofs.JoinLaws.{join_eq}
 use Rattle.basics.proofs.FirstIndexLaws.{first_is}
-use Rattle.table.specs.declared.Checked.TheVariants.{Fine}
+use Rattle.std.specs.Prelude.{Ok}
 use Rattle.block.specs.Numbers.{byte_at}
 use Rattle.card.specs.Archive.{block_at, blocks_in}
 use Rattle.card.proofs.ReadLaws.{accepted_is}
@@ -65,11 +65,7 @@ Among a b = (p : ℕ) × (p < blocks_in a) × (b ≡ block_at a p)
 module _ (a s : List ℕ) (k : Kept a) (x : Spoiled a s (blocks_in s)) where
   -- a block that is left is one of the archive's
   left_from : (i : ℕ) → i < blocks_in s → Left s i → Among a (block_at s i)
-  left_from i h l = go (x.from i h)
-    where
-      go : (GoodBlock (block_at s i) → ⊥) ⊎ Among a (block_at s i) → Among a (block_at s i)
-      go (inl n) = absurd (n l.0)
-      go (inr y) = y
+  left_from i h l = ⊎_elim (λ n. absurd (n l.0)) (λ y. y) (x.from i h)
 
   -- and each of the archive's is left
   left_each : (p : ℕ) → p < blocks_in a → (i : ℕ) × (i < blocks_in s) × Left s i × (block_at s i ≡ block_at a p)
@@ -114,7 +110,7 @@ module _ (a s : List ℕ) (k : Kept a) (x : Spoiled a s (blocks_in s)) where
       ∙ parts_joined a (blocks_in a) k.whole.long
 
   module _ (list out : List ℕ) (w : WholeCard s (blocks_in s)) (r : Room s (blocks_in s) (length list) (length out)) where
-    given_fine : salvage_fault s (length list) (length out) ≡ Fine
+    given_fine : salvage_fault s (length list) (length out) ≡ Ok tt
     given_fine =
         sound_fine s (length list) (length out)
         (record { whole = w; fits = r; complete = is_complete_lem s (blocks_in a) spoiled_complete; table = rw given k.table })

@@ -1,6 +1,5 @@
 -- Cards with bad blocks, computed: what becomes of each block, whether those left are complete, and the refusals in their order.
-use Rattle.std.specs.Prelude.{ℕ, ◌≡◌, Bool, true, false, List, [], ◌∷◌, ◌++◌, map, set, replicate}
-use Rattle.table.specs.declared.Checked.TheVariants.{Fine}
+use Rattle.std.specs.Prelude.{ℕ, ◌≡◌, Bool, true, false, List, [], ◌∷◌, ◌++◌, map, set, replicate, Ok}
 use Rattle.table.specs.declared.Fault.TheVariants.{BadTimes, TooShort, Mismatch, BadCard}
 use Rattle.table.specs.Empty.{unused_pair}
 use Rattle.table.specs.At.{a_task}
@@ -58,7 +57,7 @@ pub record CasesHold : Type 0 where
   pub archive : in_order (two ++ spoiled ++ two ++ one) (3 ∷ 0 ∷ 1 ∷ 3 ∷ []) 2 ≡ one ++ two
   -- 14; the table's own, C above D in task 2; and nothing
   pub faults : map (λ (x : List ℕ × List ℕ). left_fault x.0 x.1) ((one, 2 ∷ []) ∷ (block 4 2 2 11 ++ one, 3 ∷ 3 ∷ []) ∷ (two ++ one, 3 ∷ 3 ∷ []) ∷ [])
-      ≡ (at Mismatch 0 ∷ at BadTimes 2 ∷ Fine ∷ [])
+      ≡ (at Mismatch 0 ∷ at BadTimes 2 ∷ Ok tt ∷ [])
   -- 15: no byte, a byte more than a block, 65 blocks; before 11. 11: an entry, or a byte, too few; before 14
   pub lengths : map (λ (s : List ℕ). salvage_fault s 0 0) ([] ∷ (one ++ (0 ∷ [])) ∷ replicate 33_280 0 ∷ []) ≡ replicate 3 (at BadCard 0)
   pub short : map (λ (x : ℕ × ℕ). salvage_fault spoiled x.0 x.1) ((0, 512) ∷ (1, 511) ∷ []) ≡ replicate 2 (at TooShort 0)

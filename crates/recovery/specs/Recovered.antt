@@ -1,7 +1,6 @@
 -- Request 5/12 of document 02: what the tool is for. An archive a, an input s, and a list and an output that are lent.
-use Rattle.std.specs.Prelude.{ℕ, ◌<◌, ◌≡◌, ◌⊎◌, List, ◌++◌, length, take, drop, replicate}
+use Rattle.std.specs.Prelude.{ℕ, ◌<◌, ◌≡◌, ◌⊎◌, List, ◌++◌, length, take, drop, replicate, Ok}
 use Rattle.table.specs.declared.Table.{Table}
-use Rattle.table.specs.declared.Written.TheVariants.{Wrote}
 use Rattle.table.specs.Answers.{accepted}
 use Rattle.card.specs.Archive.{block_at, blocks_in, table_in, read_archive}
 use Rattle.release.specs.Refusals.{GoodBlock}
@@ -12,7 +11,7 @@ use Rattle.recovery.specs.Refusals.{WholeCard, Room}
 
 -- the answer, and what the list and the output then hold, where the archive a is written and the list begins with `codes`
 pub record Gives (s list out a codes : List ℕ) : Type 0 where
-  pub answer : salvage_answer s (length list) (length out) ≡ Wrote (length a)
+  pub answer : salvage_answer s (length list) (length out) ≡ Ok (length a)
   pub output : salvaged s (length list) out ≡ a ++ drop (length a) out
   pub entries : listed s list (length out) ≡ codes ++ drop (length codes) list
 
@@ -23,13 +22,13 @@ written_of s entries out l = take l (salvaged s entries out)
 -- what is written is an archive that the reader accepts, with the table that its blocks state
 abbrev pub Readable : Type 0
 Readable =
-    (s out : List ℕ) (entries l : ℕ) → salvage_answer s entries (length out) ≡ Wrote l
+    (s out : List ℕ) (entries l : ℕ) → salvage_answer s entries (length out) ≡ Ok l
     → read_archive (written_of s entries out l) ≡ accepted (table_in (written_of s entries out l))
 
 -- every block that is written is a block of the input
 abbrev pub NothingInvented : Type 0
 NothingInvented =
-    (s out : List ℕ) (entries l : ℕ) → salvage_answer s entries (length out) ≡ Wrote l
+    (s out : List ℕ) (entries l : ℕ) → salvage_answer s entries (length out) ≡ Ok l
     → (p : ℕ) → p < blocks_in (written_of s entries out l) → (i : ℕ) × (i < blocks_in s) × (block_at (written_of s entries out l) p ≡ block_at s i)
 
 -- a good archive is returned as it is, all kept

@@ -1,7 +1,6 @@
 -- Request 5/12 of document 02, its list, its completeness and its refusals said a second way.
-use Rattle.std.specs.Prelude.{ℕ, ◌+◌, ◌*◌, ◌≤◌, ◌<◌, ◌≡◌, ◌⊎◌, List, length}
+use Rattle.std.specs.Prelude.{ℕ, ◌+◌, ◌*◌, ◌≤◌, ◌<◌, ◌≡◌, ◌⊎◌, List, length, Ok}
 use Rattle.basics.specs.Exactly.{◌exactly_if◌}
-use Rattle.table.specs.declared.Checked.TheVariants.{Fine}
 use Rattle.table.specs.Limits.{max_tasks}
 use Rattle.table.specs.Faults.{Refuses}
 use Rattle.table.specs.Accepted.{Accepted}
@@ -86,6 +85,6 @@ pub record SalvagedAsCalled : Type 0 where
   pub refused : (s : List ℕ) (entries room number place : ℕ) → Refuses (salvage_fault s entries room) number place exactly_if CallsFor s entries room number place
   -- and nothing is refused exactly if nothing is called for
   pub fine : (s : List ℕ) (entries room : ℕ)
-      → (salvage_fault s entries room ≡ Fine) exactly_if ((k : ℕ) × (n : ℕ) × (a : List ℕ) × WholeCard s k × Room s k entries room × Complete s k n × Ordered s k n a × Accepted (table_in a))
+      → (salvage_fault s entries room ≡ Ok tt) exactly_if ((k : ℕ) × (n : ℕ) × (a : List ℕ) × WholeCard s k × Room s k entries room × Complete s k n × Ordered s k n a × Accepted (table_in a))
   -- more than 32 blocks that are complete are 8
   pub too_many : (s : List ℕ) (entries room k n : ℕ) → WholeCard s k → Room s k entries room → Complete s k n → max_tasks < n → Refuses (salvage_fault s entries room) 8 0

@@ -1,31 +1,26 @@
 -- What is found out with an input, a list of so many entries and an output of so many bytes, and what is then written, is what the definitions say.
 -- Assumes nothing.
-use Prim.Native.Nat.{ℕ, ◌+◌, ◌*◌, ◌/◌, ◌≤◌, ◌<◌}
-use mathlib.Core.Path.{◌≡◌, refl, sym, ap, ◌∙◌}
-use mathlib.Core.Bool.{◌&&◌}
+use Prim.Native.Nat.{ℕ, ◌*◌, ◌≤◌}
+use mathlib.Core.Path.{◌≡◌, refl, ◌∙◌}
 use mathlib.Core.List.{List, ◌++◌}
 use native.Mathlib.Omega.{arith}
-use borrow.Author.Tests.{leb-true, le-leb}
-use lib.ListN.{length, take, drop}
-use lib.Dec.{leb}
+use lib.ListN.{length, take, drop, length-append}
+use lib.Seq.{length-take-le, take_at}
 use Rattle.basics.specs.Over.{row_to}
-use Rattle.basics.specs.Text.{put_into}
-use Rattle.basics.proofs.ChoiceLaws.{and_true}
 use Rattle.basics.proofs.RowLaws.{row_length}
-use Rattle.table.specs.declared.Fault.TheVariants.{TooShort, Mismatch, BadCard}
-use Rattle.table.specs.declared.Checked.{Checked}
-use Rattle.table.specs.declared.Checked.TheVariants.{Fine, Refused}
-use Rattle.table.specs.Faults.{◌then◌, unless}
-use Rattle.table.specs.Rules.{table_fault}
-use Rattle.table.specs.Answers.{or_wrote, or_text}
+use Rattle.table.specs.declared.Fault.TheVariants.{Mismatch}
+use Rattle.table.specs.Faults.{Checked}
+use Rattle.std.specs.Prelude.{Ok, Err}
+use Rattle.table.specs.Faults.{unless}
+use Rattle.table.specs.Answers.{or_wrote}
 use Rattle.table.proofs.FirstLaws.{then_fine}
 use Rattle.table.proofs.RuleLaws.{unless_fine}
-use Rattle.card.specs.Archive.{blocks_in, table_in}
+use Rattle.card.specs.Archive.{blocks_in}
 use Rattle.salvaging.specs.Fates.{code_at, codes_of}
-use Rattle.salvaging.specs.Salvage.{left_in, is_complete, place_of, Placed, in_order, is_card, has_room, room_fault, left_fault, salvage_fault, if_fine, mended, salvage_answer, listed, salvaged}
+use Rattle.salvaging.specs.Salvage.{left_in, is_complete, blocks_of, room_fault, left_fault, salvage_fault, if_fine, mended, salvage_answer}
 use Rattle.salvaging.proofs.LeftLaws.{left_most, complete_placed}
-use Rattle.salvaging.proofs.MendLaws.{order_none, order_long}
-use Rattle.salvaging.proofs.AnswerLaws.{fine_below, fine_after, then_assoc, looked, looked_card, looked_bounds}
+use Rattle.salvaging.proofs.MendLaws.{order_long}
+use Rattle.salvaging.proofs.AnswerLaws.{Roomy, roomy, looked}
 
 pub codes_length : (s : List ℕ) → length (codes_of s) ≡ blocks_in s
 unfolding codes_of
@@ -35,114 +30,71 @@ codes_length s = row_length (blocks_in s) (code_at s)
 abbrev pub codes : List ℕ → List ℕ
 codes s = row_to (looked s) (code_at s)
 
-pub few : (s : List ℕ) → left_in (codes s) ≤ looked s
-few s = omega (arith, left_most (codes s), row_length (looked s) (code_at s))
+-- ---- once neither 15 nor 11 is given: k blocks of an input s, and their codes ys at the start of the list
 
-pub covered : (s : List ℕ) → 512 * length (codes s) ≤ length s
-covered s = omega (arith, row_length (looked s) (code_at s), (looked_bounds (length s)).0)
+module _ (s list : List ℕ) (k : ℕ) (e : k ≡ blocks_of (length s)) (room : ℕ) (r : Roomy (length s) (length list) room) where
+  pub lent : length (take k list) ≡ k
+  lent = length-take-le k list (omega (arith, e, r.list))
+
+  module _ (ys : List ℕ) (f : ys ≡ row_to (length (take k list)) (code_at s)) where
+    codes_made : ys ≡ codes_of s
+    unfolding codes_of
+    codes_made = f ∙ rw (lent, e, r.blocks_are)
+
+    codes_long : length ys ≡ k
+    codes_long = rw f (row_length (length (take k list)) (code_at s)) ∙ lent
+
+    pub codes_within : k ≤ length (ys ++ drop k list)
+    codes_within = omega (arith, codes_long, length-append ys (drop k list))
+
+    pub read_long : length (take k (ys ++ drop k list)) ≡ k
+    read_long = length-take-le k (ys ++ drop k list) codes_within
+
+    pub codes_read : take k (ys ++ drop k list) ≡ codes_of s
+    codes_read = take_at ys (drop k list) k codes_long ∙ codes_made
+
+    pub list_made : ys ++ drop k list ≡ codes_of s ++ drop (length (codes_of s)) list
+    list_made = let n : length (codes_of s) ≡ k = rw (← codes_made) codes_long in rw (n, codes_made)
+
+-- what is answered then
+module _ (s : List ℕ) (entries room : ℕ) (e : room_fault (length s) entries room ≡ Ok tt) where
+  mended_left : left_fault s (codes_of s) ≡ Ok tt → length (mended s) ≡ 512 * left_in (codes_of s)
+  unfolding left_fault mended
+  mended_left f =
+      let c = unless_fine (is_complete s (codes_of s)) Mismatch 0 (then_fine (unless (is_complete s (codes_of s)) Mismatch 0) _ f).0 in
+      order_long s (codes_of s) (left_in (codes_of s)) (omega (arith, codes_length s)) (complete_placed s (codes_of s) c)
+
+  pub answer_left : or_wrote (left_fault s (codes_of s)) (512 * left_in (codes_of s)) ≡ salvage_answer s entries room
+  unfolding salvage_answer salvage_fault
+  answer_left = rw e (go (left_fault s (codes_of s)) refl)
+    where
+      go : (c : Checked) → left_fault s (codes_of s) ≡ c → or_wrote c (512 * left_in (codes_of s)) ≡ or_wrote c (length (mended s))
+      go (Ok _) f = rw (mended_left f)
+      go (Err r) f = refl
+
+-- ---- what is answered, by how many blocks are written
 
 module _ (s : List ℕ) (entries room : ℕ) where
-  -- ---- what is found out, step by step
-
-  abbrev pub fits : Checked
-  fits = room_fault (length s) entries room
-
-  abbrev pub whole : Checked
-  whole = fits then unless (is_complete s (codes s)) Mismatch 0
-
-  abbrev pub some : ℕ
-  some = if_fine whole (left_in (codes s))
-
-  complete : whole ≡ Fine → Placed s (codes s) (left_in (codes s))
-  complete e = complete_placed s (codes s) (unless_fine (is_complete s (codes s)) Mismatch 0 (then_fine fits _ e).1)
-
-  pub placed : Placed s (codes s) some
-  placed p h = go whole refl h
-    where
-      go : (c : Checked) → whole ≡ c → p < if_fine c (left_in (codes s)) → place_of s (codes s) (p + 1) < length (codes s)
-      go Fine e l = complete e p l
-      go (Refused r) e l = absurd (omega arith)
-
-  codes_are : fits ≡ Fine → codes s ≡ codes_of s
-  unfolding room_fault codes_of
-  codes_are e = rw (looked_card (length s) (unless_fine (is_card (length s)) BadCard 0 (then_fine (unless (is_card (length s)) BadCard 0) _ e).0))
-
-  pub fault_is : (whole then table_fault (table_in (in_order s (codes s) some))) ≡ salvage_fault s entries room
-  unfolding salvage_fault left_fault
-  fault_is =
-      fine_after whole (λ n. table_fault (table_in (in_order s (codes s) n))) (left_in (codes s))
-      ∙ then_assoc fits (unless (is_complete s (codes s)) Mismatch 0) (table_fault (table_in (in_order s (codes s) (left_in (codes s)))))
-      ∙ go fits refl
-    where
-      go : (c : Checked) → fits ≡ c
-          → (c then (unless (is_complete s (codes s)) Mismatch 0 then table_fault (table_in (in_order s (codes s) (left_in (codes s))))))
-          ≡ (c then (unless (is_complete s (codes_of s)) Mismatch 0 then table_fault (table_in (in_order s (codes_of s) (left_in (codes_of s))))))
-      go Fine e = rw (codes_are e)
-      go (Refused r) e = refl
-
-  -- ---- what is written
-
   abbrev pub blocks : ℕ
   blocks = if_fine (salvage_fault s entries room) (left_in (codes s))
 
-  whole_fine : salvage_fault s entries room ≡ Fine → whole ≡ Fine
-  whole_fine e = (then_fine whole _ (fault_is ∙ e)).0
-
-  pub blocks_placed : Placed s (codes s) blocks
-  blocks_placed p h = go (salvage_fault s entries room) refl h
-    where
-      go : (c : Checked) → salvage_fault s entries room ≡ c → p < if_fine c (left_in (codes s)) → place_of s (codes s) (p + 1) < length (codes s)
-      go Fine e l = complete (whole_fine e) p l
-      go (Refused r) e l = absurd (omega arith)
-
-  pub blocks_few : blocks ≤ looked s
-  blocks_few = omega (arith, fine_below (salvage_fault s entries room) (left_in (codes s)), few s)
-
-  -- there is room for all of them
-  fitting : fits ≡ Fine → (length s / 512 ≤ entries) × (length s ≤ room)
-  unfolding room_fault has_room
-  fitting e =
-      let h = unless_fine (leb (length s / 512) entries && leb (length s) room) TooShort 0 (then_fine (unless (is_card (length s)) BadCard 0) _ e).1 in
-      let p = and_true (leb (length s / 512) entries) (leb (length s) room) h in
-      (leb-true _ _ p.0, leb-true _ _ p.1)
+  fine : salvage_fault s entries room ≡ Ok tt → (room_fault (length s) entries room ≡ Ok tt) × (left_fault s (codes_of s) ≡ Ok tt)
+  unfolding salvage_fault
+  fine e = then_fine (room_fault (length s) entries room) (left_fault s (codes_of s)) e
 
   pub blocks_room : 512 * blocks ≤ room
   blocks_room = go (salvage_fault s entries room) refl
     where
-      go : (c : Checked) → salvage_fault s entries room ≡ c → 512 * blocks ≤ room
-      go Fine e = omega (arith, (fitting (then_fine fits _ (whole_fine e)).0).1, blocks_few, (looked_bounds (length s)).0)
-      go (Refused r) e = rw e (omega arith)
-
-  mended_is : salvage_fault s entries room ≡ Fine → in_order s (codes s) blocks ≡ mended s
-  unfolding mended
-  mended_is e = rw (e, codes_are (then_fine fits _ (whole_fine e)).0)
-
-  mended_long : salvage_fault s entries room ≡ Fine → 512 * blocks ≡ length (mended s)
-  mended_long e = sym (order_long s (codes s) blocks (covered s) blocks_placed) ∙ ap length (mended_is e)
+      go : (c : Checked) → salvage_fault s entries room ≡ c → 512 * if_fine c (left_in (codes s)) ≤ room
+      go (Ok _) e =
+          let r = roomy (length s) entries room (fine e).0 in
+          omega (arith, r.whole, r.out, left_most (codes s), row_length (looked s) (code_at s))
+      go (Err r) e = omega arith
 
   pub answer_is : or_wrote (salvage_fault s entries room) (512 * blocks) ≡ salvage_answer s entries room
-  unfolding salvage_answer
+  unfolding salvage_answer codes_of
   answer_is = go (salvage_fault s entries room) refl
     where
-      go : (c : Checked) → salvage_fault s entries room ≡ c → or_wrote c (512 * blocks) ≡ or_wrote c (length (mended s))
-      go Fine e = rw (mended_long e)
-      go (Refused r) e = refl
-
--- the list, by the codes at the start of a row of them
-pub listed_is : (s list : List ℕ) (room : ℕ) (row : List ℕ) → take (looked s) row ≡ codes s → put_into (take (if_fine (fits s (length list) room) (looked s)) row) list ≡ listed s list room
-unfolding listed
-listed_is s list room row e = go (fits s (length list) room) refl
-  where
-    go : (c : Checked) → fits s (length list) room ≡ c → put_into (take (if_fine c (looked s)) row) list ≡ or_text c (codes_of s) list
-    go Fine f = rw (e, codes_are s (length list) room f, le-leb (length (codes_of s)) (length list) (omega (arith, (fitting s (length list) room f).0, codes_length s)))
-    go (Refused r) f = rw (le-leb 0 (length list) (omega arith))
-
-pub salvaged_is : (s : List ℕ) (entries : ℕ) (out : List ℕ)
-    → in_order s (codes s) (blocks s entries (length out)) ++ drop (512 * blocks s entries (length out)) out ≡ salvaged s entries out
-unfolding salvaged
-salvaged_is s entries out = go (salvage_fault s entries (length out)) refl
-  where
-    go : (c : Checked) → salvage_fault s entries (length out) ≡ c
-        → in_order s (codes s) (blocks s entries (length out)) ++ drop (512 * blocks s entries (length out)) out ≡ or_text c (mended s) out
-    go Fine e = rw (mended_is s entries (length out) e, mended_long s entries (length out) e)
-    go (Refused r) e = rw (e, order_none s (codes s))
+      go : (c : Checked) → salvage_fault s entries room ≡ c → or_wrote c (512 * if_fine c (left_in (codes s))) ≡ or_wrote c (length (mended s))
+      go (Ok _) e = rw (mended_left s entries room (fine e).0 (fine e).1, (roomy (length s) entries room (fine e).0).blocks_are)
+      go (Err r) e = refl

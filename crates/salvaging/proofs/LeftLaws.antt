@@ -5,7 +5,7 @@ use mathlib.Core.Path.{◌≡◌, refl, sym, ◌∙◌}
 use mathlib.Core.Bool.{Bool, true, false, ◌&&◌}
 use mathlib.Core.List.{List}
 use native.Mathlib.Omega.{arith}
-use borrow.Author.Tests.{eqb-true}
+use borrow.Author.Tests.{eqb-true, ltb-true}
 use lib.ListN.{length}
 use lib.Dec.{leb, ltb, eqb}
 use Rattle.basics.specs.Choice.{pick, only, within}
@@ -33,6 +33,11 @@ left_most list = omega (arith, sum_bound (length list) 1 (λ i. only (left_at li
 module _ (s list : List ℕ) (e : is_complete s list ≡ true) where
   abbrev first : Head
   first = head_left s list
+
+  -- there is one
+  pub complete_some : 0 < left_in list
+  unfolding is_complete
+  complete_some = ltb-true 0 (left_in list) (and_true (ltb 0 (left_in list)) (all_join s list first) (and_true (ltb 0 (left_in list) && all_join s list first) (each_once s list first.n) e).0).0
 
   join : all_join s list first ≡ true
   unfolding is_complete

@@ -1,21 +1,21 @@
 -- The blocks left in the order of their numbers: the table that they say, and the blocks put one after the other.
 -- Assumes nothing.
-use Prim.Native.Nat.{ℕ, ◌+◌, ◌*◌, ◌≤◌, ◌<◌}
+use Prim.Native.Nat.{ℕ, ◌+◌, ◌-◌, ◌*◌, ◌≤◌, ◌<◌, min}
 use mathlib.Core.Path.{◌≡◌, refl, sym, ap, ◌∙◌}
 use mathlib.Core.List.{List, [], ◌++◌}
 use native.Mathlib.Omega.{arith}
-use borrow.Author.Tests.{le-leb, ltb-true}
-use mathlib.Core.Bool.{true}
-use lib.ListN.{length, drop, set, replicate, length-replicate, length-drop}
+use native.Mathlib.Decide.{dec_lt}
+use borrow.Author.Tests.{lt-ltb, le-ltb, ltb-true}
+use lib.ListN.{length, drop, set, replicate, length-append, length-replicate, length-drop}
+use borrow.Rule.Slice.PartMut.{put_mid}
 use lib.Seq.{length-take-le}
-use lib.Dec.{leb, ltb}
+use lib.Dec.{ltb}
 use Rattle.basics.specs.Choice.{pick}
 use Rattle.basics.specs.Over.{join_to, row_to}
-use Rattle.basics.specs.Text.{put_into}
 use Rattle.basics.proofs.ChoiceLaws.{pick_when}
 use Rattle.basics.proofs.JoinLaws.{join_more, join_even}
 use Rattle.basics.proofs.RowLaws.{row_eq, over_none, over_more, over_same}
-use Rattle.basics.proofs.FillLaws.{rest_at, back_at, Filled, filled_part, rest_length}
+use Rattle.basics.proofs.FillLaws.{rest_at, back_at, whole_part, rest_length, back_plain, Filled, filled_part}
 use Rattle.table.specs.declared.Task.{Task}
 use Rattle.table.specs.declared.Table.{Table}
 use Rattle.table.specs.Limits.{max_tasks}
@@ -74,10 +74,18 @@ module _ (s list : List ℕ) (n : ℕ) (l : 512 * length list ≤ length s) (h :
       ∙ rw (order_blocks s list n l h) (row_eq max_tasks (λ i. pick (ltb i p) (task_in (block_at s (place_of s list (i + 1)))) empty_task) (λ i. pick (ltb i n) (task_in (block_at (in_order s list n) i)) empty_task)
       (λ i k. rw (d i k) (pick_when empty_task (ltb i n) (λ q. ap task_in (sym (order_at s list n l h i (ltb-true i n q)))))))
 
-  pub table_done : (p : ℕ) {t : Table} → p ≤ max_tasks → ((i : ℕ) → i < max_tasks → ltb i p ≡ ltb i n) → t.cpus ≡ (head_in (block_at (in_order s list n) 0)).cpus → t.n ≡ n → t.groups ≡ no_groups → t.tasks ≡ tasks_to s list p
-      → t ≡ table_in (in_order s list n)
+  few : (i : ℕ) → i < max_tasks → ltb i (min n max_tasks) ≡ ltb i n
+  few i k = go (dec_lt i n)
+    where
+      go : Dec (i < n) → ltb i (min n max_tasks) ≡ ltb i n
+      go (yes d) = rw (lt-ltb i n d, lt-ltb i (min n max_tasks) (omega arith))
+      go (no d) = rw (le-ltb i n (omega arith), le-ltb i (min n max_tasks) (omega arith))
+
+  pub table_done : (p : ℕ) {t : Table} → p ≡ min n max_tasks → t.cpus ≡ (head_in (block_at (in_order s list n) 0)).cpus → t.n ≡ n → t.groups ≡ no_groups → t.tasks ≡ tasks_to s list p → t ≡ table_in (in_order s list n)
   unfolding table_in
-  table_done p m d e f z g = λ j. record { cpus = e j; n = (f ∙ sym (order_blocks s list n l h)) j; groups = z j; tasks = (g ∙ tasks_done p m d) j }
+  table_done p m e f z g =
+      let done : tasks_to s list p ≡ (table_in (in_order s list n)).tasks = tasks_done p (omega (arith, m)) (λ i k. rw m (few i k)) in
+      λ j. record { cpus = e j; n = (f ∙ sym (order_blocks s list n l h)) j; groups = z j; tasks = (g ∙ done) j }
 
 -- ---- the blocks, put one after the other
 
@@ -85,12 +93,15 @@ pub order_none : (s list : List ℕ) → in_order s list 0 ≡ []
 unfolding in_order join_to
 order_none s list = refl
 
-pub block_next : (s list : List ℕ) (p : ℕ) {o o₁ ys : List ℕ} → Filled o o₁ (in_order s list p) (512 * p) → 512 * p + 512 ≤ length o → length (block_at s (place_of s list (p + 1))) ≡ 512
-    → length ys ≡ length (rest_at o₁ (512 * p)) → ys ≡ put_into (block_at s (place_of s list (p + 1))) (rest_at o₁ (512 * p)) → Filled o (back_at o₁ (512 * p) ys) (in_order s list (p + 1)) (512 * (p + 1))
+-- the next one, put at its place
+pub block_next : (s list : List ℕ) (p : ℕ) {o o₁ x : List ℕ} → Filled o o₁ (in_order s list p) (512 * p) → 512 * p + 512 ≤ length o → length x ≡ 512 → x ≡ block_at s (place_of s list (p + 1))
+    → Filled o (put_mid (512 * p) (512 * p + 512 - 512 * p) o₁ x) (in_order s list (p + 1)) (512 * (p + 1))
 unfolding in_order
-block_next s list p {o} {o₁} {ys} q h n l e =
-    let x = block_at s (place_of s list (p + 1)) in
-    let r : leb (length x) (length (rest_at o₁ (512 * p))) ≡ true = le-leb (length x) (length (rest_at o₁ (512 * p))) (omega (arith, rest_length o₁ (512 * p), q.kept)) in
-    let f : ys ≡ x ++ drop 512 (rest_at o₁ (512 * p)) = e ∙ rw (r, n) in
+block_next s list p {o} {o₁} {x} q h n e =
+    let a = 512 * p in
+    let k : 512 * p + 512 - 512 * p ≡ 512 = omega arith in
     let m : 512 * (p + 1) ≡ 512 * p + 512 = omega arith in
-    rw (join_more, m) (filled_part q x (omega arith) (sym n) l f)
+    let ys = x ++ drop 512 (rest_at o₁ a) in
+    let l : length ys ≡ length (rest_at o₁ a) = length-append x (drop 512 (rest_at o₁ a)) ∙ omega (arith, n, length-drop 512 (rest_at o₁ a), rest_length o₁ a, q.kept) in
+    let f : put_mid a 512 o₁ x ≡ back_at o₁ a ys = rw (back_plain o₁ ys a, whole_part o₁ a) in
+    rw (k, f, join_more, m, ← e) (filled_part q x (omega arith) (sym n) l refl)

@@ -3,9 +3,9 @@ use Rattle.std.specs.Prelude.{ℕ, ◌+◌, ◌/◌, ◌%◌, ◌<◌, Bool, tru
 use Rattle.basics.specs.Choice.{pick, within}
 use Rattle.basics.specs.Over.{count_to, all_to, first_to, join_to}
 use Rattle.table.specs.declared.Fault.TheVariants.{TooShort, Mismatch, BadCard}
-use Rattle.table.specs.declared.Checked.{Checked}
-use Rattle.table.specs.declared.Checked.TheVariants.{Fine, Refused}
-use Rattle.table.specs.declared.Written.{Written}
+use Rattle.table.specs.Faults.{Checked}
+use Rattle.std.specs.Prelude.{Ok, Err}
+use Rattle.table.specs.Answers.{Written}
 use Rattle.table.specs.Faults.{◌then◌, unless}
 use Rattle.table.specs.Rules.{table_fault}
 use Rattle.table.specs.Answers.{or_wrote, or_text}
@@ -111,8 +111,8 @@ salvage_fault s entries room =
 
 -- so many where nothing is refused, else none
 abbrev pub if_fine : Checked → ℕ → ℕ
-if_fine Fine n = n
-if_fine (Refused r) n = 0
+if_fine (Ok _) n = n
+if_fine (Err r) n = 0
 
 -- the archive that an input is mended to
 unfoldable pub mended : List ℕ → List ℕ

@@ -1,159 +1,134 @@
-// The blocks left, by the list of them, and whether they are all that an archive needs.
-ghost use Rattle.std.specs.Prelude.{◌≡◌, ◌+◌, ◌*◌, ◌≤◌, ◌<◌, length, leb};
-ghost use Rattle.table.specs.declared.Fault.TheVariants.{Mismatch};
-ghost use Rattle.table.specs.Faults.{unless};
+// The blocks left, by the codes of all, and whether they are all that an archive needs.
+ghost use Rattle.std.specs.Prelude.{◌≡◌, ◌*◌, ◌≤◌, ◌<◌, length, leb, MatchOption};
 ghost use Rattle.block.specs.Block.{block_size, head_in};
 ghost use Rattle.card.specs.Archive.{block_at};
 ghost use Rattle.salvaging.specs.declared.Fate.TheVariants.{Kept};
 ghost use Rattle.salvaging.specs.Fates.{code_of};
-ghost use Rattle.salvaging.specs.Salvage.{max_blocks, left_in, first_left, joins, may_join, all_join, left_with, how_many, each_once, is_complete};
+ghost use Rattle.salvaging.specs.Salvage.{max_blocks, joins};
 
-use block::{Head, SIZE};
-use table::{Checked, Fault, Refusal};
+use crate::{Fate, fates};
+use block::Head;
+use table::{Fault, Refusal};
+
+// The blocks of an input, and the code of each.
+#[derive(Clone, Copy)]
+pub(crate) struct Card<'a> {
+    pub(crate) input: &'a [u8],
+    pub(crate) codes: &'a [u8],
+    ghost whole: { (length codes.now ≤ max_blocks) × (block_size * length codes.now ≤ length input.now) },
+}
 
 // A block is left where its code is that of one kept or moved.
-pub(crate) fn is_left(code: u8) -> bool
+fn is_left(code: u8) -> bool
     ensures { result ≡ leb (code_of Kept) code }
 {
-    2 <= code
-}
-
-// What the block at a place says besides its task.
-pub(crate) fn head_at(s: &[u8], i: usize) -> Head
-    requires { (i < max_blocks) × (block_size * i + block_size ≤ length s.now) }
-    ensures { result ≡ head_in (block_at s.now i) }
-{
-    let at = SIZE * i;
-    block::head_of(&s[at..at + SIZE])
-}
-
-// The first block left; the list's length if there is none.
-fn first_left(list: &[u8]) -> usize
-    ensures { result ≡ first_left list.now }
-{
-    let mut i: usize = 0;
-    while i < list.len() {
-        if is_left(list[i]) {
-            return i;
-        }
-        i += 1;
-    }
-    i
+    Fate::Kept.code() <= code
 }
 
 // Whether a block agrees with the first one left, and has a number from 1 to n.
+#[tactic(auto, unfolding(crate::specs::Salvage::joins))]
 fn joins(first: Head, h: Head) -> bool
     ensures { result ≡ joins first h }
 {
-    // in locals, so that a wrong program that compares others keeps the shape
-    let n = first.n;
-    let said = h.n;
-    if h.cpus != first.cpus {
-        return false;
-    }
-    if said != n {
-        return false;
-    }
-    if h.number < 1 {
-        return false;
-    }
-    h.number <= n
+    h.cpus == first.cpus && h.n == first.n && 1 <= h.number && h.number <= first.n
 }
 
-// Whether the block at a place does, if it is left.
-fn may_join(s: &[u8], list: &[u8], first: Head, i: usize) -> bool
-    requires { (length list.now ≤ max_blocks) × (block_size * length list.now ≤ length s.now) × (i < length list.now) }
-    ensures { result ≡ may_join s.now list.now first i }
-{
-    if !is_left(list[i]) {
-        return true;
-    }
-    joins(first, head_at(s, i))
-}
+impl Card<'_> {
+    ghost use Rattle.table.specs.declared.Fault.TheVariants.{Mismatch};
+    ghost use Rattle.table.specs.Faults.{unless};
+    ghost use Rattle.salvaging.specs.Salvage.{left_in, first_left, may_join, all_join, left_with, how_many, each_once, is_complete};
 
-// Whether each block left does.
-fn all_join(s: &[u8], list: &[u8], first: Head) -> bool
-    requires { (length list.now ≤ max_blocks) × (block_size * length list.now ≤ length s.now) }
-    ensures { result ≡ all_join s.now list.now first }
-{
-    let mut i: usize = 0;
-    while i < list.len() {
-        if !may_join(s, list, first, i) {
+    // Block i + 1, one of those that the card has: of an index that is a clause, as for a slice.
+    pub(crate) fn block(&self, i: usize) -> &[u8]
+        requires { i < length self.now.codes.now }
+        ensures { result.now ≡ block_at self.now.input.now i }
+    {
+        fates::block_at(self.input, i)
+    }
+
+    // What it says besides its task.
+    fn head_at(&self, i: usize) -> Head
+        requires { i < length self.now.codes.now }
+        ensures { result ≡ head_in (block_at self.now.input.now i) }
+    {
+        block::head_of(self.block(i))
+    }
+
+    // How many blocks are left.
+    pub(crate) fn left(&self) -> usize
+        ensures { result ≡ left_in self.now.codes.now }
+    {
+        self.codes.iter().filter(|x| is_left(**x)).count()
+    }
+
+    // The first block left.
+    fn first_left(&self) -> Option<usize>
+        ensures { MatchOption result (left_in self.now.codes.now ≡ 0) (λ i. (0 < left_in self.now.codes.now) × (i < length self.now.codes.now) × (i ≡ first_left self.now.codes.now)) }
+    {
+        self.codes.iter().position(|x| is_left(*x))
+    }
+
+    // Whether block i + 1 joins the first one, if it is left.
+    fn may_join(&self, first: Head, i: usize) -> bool
+        requires { i < length self.now.codes.now }
+        ensures { result ≡ may_join self.now.input.now self.now.codes.now first i }
+    {
+        !is_left(self.codes[i]) || joins(first, self.head_at(i))
+    }
+
+    // Whether each block left does.
+    fn all_join(&self, first: Head) -> bool
+        ensures { result ≡ all_join self.now.input.now self.now.codes.now first }
+    {
+        (0..self.codes.len()).all(|i| self.may_join(first, i))
+    }
+
+    // Whether block i + 1 is left and has a number.
+    pub(crate) fn has_number(&self, number: u32, i: usize) -> bool
+        requires { i < length self.now.codes.now }
+        ensures { result ≡ left_with self.now.input.now self.now.codes.now number i }
+    {
+        is_left(self.codes[i]) && self.head_at(i).number == number
+    }
+
+    // How many blocks left have a number.
+    fn how_many(&self, number: u32) -> usize
+        ensures { result ≡ how_many self.now.input.now self.now.codes.now number }
+    {
+        (0..self.codes.len())
+            .filter(|i| self.has_number(number, *i))
+            .count()
+    }
+
+    // Whether each number from 1 to n is there once.
+    fn each_once(&self, n: u32) -> bool
+        ensures { result ≡ each_once self.now.input.now self.now.codes.now n }
+    {
+        (0..n).all(|p| self.how_many(p + 1) == 1)
+    }
+
+    // Whether the blocks left make a complete archive.
+    #[tactic(auto, unfolding(crate::specs::Salvage::is_complete))]
+    fn is_complete(&self) -> bool
+        ensures { result ≡ is_complete self.now.input.now self.now.codes.now }
+    {
+        let Some(i) = self.first_left() else {
             return false;
+        };
+        let first = self.head_at(i);
+        self.all_join(first) && self.each_once(first.n)
+    }
+
+    // 14.
+    pub(crate) fn check_complete(&self) -> Result<(), Refusal>
+        ensures { result ≡ unless (is_complete self.now.input.now self.now.codes.now) Mismatch 0 }
+    {
+        if self.is_complete() {
+            return Ok(());
         }
-        i += 1;
+        Err(Refusal {
+            fault: Fault::Mismatch,
+            place: 0,
+        })
     }
-    true
-}
-
-// Whether the block at a place is left and has a number.
-pub(crate) fn has_number(s: &[u8], list: &[u8], number: u32, i: usize) -> bool
-    requires { (length list.now ≤ max_blocks) × (block_size * length list.now ≤ length s.now) × (i < length list.now) }
-    ensures { result ≡ left_with s.now list.now number i }
-{
-    if !is_left(list[i]) {
-        return false;
-    }
-    let h = head_at(s, i);
-    h.number == number
-}
-
-// How many blocks left have a number.
-fn how_many(s: &[u8], list: &[u8], number: u32) -> usize
-    requires { (length list.now ≤ max_blocks) × (block_size * length list.now ≤ length s.now) }
-    ensures { result ≡ how_many s.now list.now number }
-{
-    let mut count: usize = 0;
-    let mut i: usize = 0;
-    while i < list.len() {
-        if has_number(s, list, number, i) {
-            count += 1;
-        }
-        i += 1;
-    }
-    count
-}
-
-// Whether each number from 1 to n is there once.
-fn each_once(s: &[u8], list: &[u8], n: u32) -> bool
-    requires { (length list.now ≤ max_blocks) × (block_size * length list.now ≤ length s.now) }
-    ensures { result ≡ each_once s.now list.now n }
-{
-    let mut p: u32 = 0;
-    while p < n {
-        if how_many(s, list, p + 1) != 1 {
-            return false;
-        }
-        p += 1;
-    }
-    true
-}
-
-// Whether the blocks left, of which there are so many, make a complete archive.
-fn is_complete(s: &[u8], list: &[u8], left: usize) -> bool
-    requires { (length list.now ≤ max_blocks) × (block_size * length list.now ≤ length s.now) × (left ≡ left_in list.now) }
-    ensures { result ≡ is_complete s.now list.now }
-{
-    if left == 0 {
-        return false;
-    }
-    let first = head_at(s, first_left(list));
-    if !all_join(s, list, first) {
-        return false;
-    }
-    each_once(s, list, first.n)
-}
-
-// 14.
-pub(crate) fn check_complete(s: &[u8], list: &[u8], left: usize) -> Checked
-    requires { (length list.now ≤ max_blocks) × (block_size * length list.now ≤ length s.now) × (left ≡ left_in list.now) }
-    ensures { result ≡ unless (is_complete s.now list.now) Mismatch 0 }
-{
-    if is_complete(s, list, left) {
-        return Checked::Fine;
-    }
-    Checked::Refused(Refusal {
-        fault: Fault::Mismatch,
-        place: 0,
-    })
 }

@@ -1,79 +1,69 @@
 // The blocks left in the order of their numbers: as a table, and at the start of an output.
-ghost use Rattle.std.specs.Prelude.{◌≡◌, ◌++◌, ◌*◌, ◌≤◌, length, drop};
-ghost use Rattle.block.specs.Block.{block_size, head_in};
-ghost use Rattle.card.specs.Archive.{block_at, table_in};
-ghost use Rattle.table.specs.Rules.{table_fault};
-ghost use Rattle.salvaging.specs.Salvage.{max_blocks, place_of, Placed, in_order};
-
-use crate::left;
+use crate::left::Card;
 use block::SIZE;
-use table::{Checked, Table};
+use table::{Refusal, Table};
 
-// Where the block left with a number is; the list's length if there is none.
-fn place_of(s: &[u8], list: &[u8], number: u32) -> usize
-    requires { (length list.now ≤ max_blocks) × (block_size * length list.now ≤ length s.now) }
-    ensures { result ≡ place_of s.now list.now number }
-{
-    let mut i: usize = 0;
-    while i < list.len() {
-        if left::has_number(s, list, number, i) {
-            return i;
+impl Card<'_> {
+    ghost use Rattle.std.specs.Prelude.{◌≡◌, ◌++◌, ◌*◌, ◌≤◌, ◌<◌, length, drop};
+    ghost use Rattle.block.specs.Block.{block_size};
+    ghost use Rattle.card.specs.Archive.{block_at, table_in};
+    ghost use Rattle.salvaging.specs.Salvage.{left_in, left_fault, place_of, Placed, in_order};
+    ghost use Rattle.table.specs.Answers.{or_wrote, or_text};
+
+    // Where the block left with a number is; how many blocks there are if there is none.
+    fn place_of(&self, number: u32) -> usize
+        ensures { result ≡ place_of self.now.input.now self.now.codes.now number }
+    {
+        (0..self.codes.len())
+            .find(|i| self.has_number(number, *i))
+            .unwrap_or(self.codes.len())
+    }
+
+    // That block.
+    fn numbered(&self, number: u32) -> &[u8]
+        requires { place_of self.now.input.now self.now.codes.now number < length self.now.codes.now }
+        ensures { result.now ≡ block_at self.now.input.now (place_of self.now.input.now self.now.codes.now number) }
+    {
+        self.block(self.place_of(number))
+    }
+
+    // The table of the first n, with as many of their tasks as it holds.
+    pub(crate) fn table(&self, n: usize) -> Table
+        requires { (1 ≤ n) × (n ≤ length self.now.codes.now) × Placed self.now.input.now self.now.codes.now n }
+        ensures { result ≡ table_in (in_order self.now.input.now self.now.codes.now n) }
+    {
+        let mut t = Table {
+            cpus: block::head_of(self.numbered(1)).cpus,
+            n,
+            ..Table::empty()
+        };
+        for p in 0..n.min(Table::MAX_TASKS) {
+            t.tasks[p] = block::task_of(self.numbered(p as u32 + 1));
         }
-        i += 1;
+        t
     }
-    i
-}
 
-// The processors that the block with number 1 says.
-fn cpus_of(s: &[u8], list: &[u8], n: usize) -> u32
-    requires { (length list.now ≤ max_blocks) × (block_size * length list.now ≤ length s.now) × Placed s.now list.now n }
-    ensures { result ≡ (head_in (block_at (in_order s.now list.now n) 0)).cpus }
-{
-    if n == 0 {
-        return 0;
-    }
-    let h = left::head_at(s, place_of(s, list, 1));
-    h.cpus
-}
-
-// The table of the first n, with as many of their tasks as it holds.
-fn table_of(s: &[u8], list: &[u8], n: usize) -> Table
-    requires { (length list.now ≤ max_blocks) × (block_size * length list.now ≤ length s.now) × (n ≤ max_blocks) × Placed s.now list.now n }
-    ensures { result ≡ table_in (in_order s.now list.now n) }
-{
-    let mut t = Table::empty();
-    t.cpus = cpus_of(s, list, n);
-    t.n = n;
-    let mut p: usize = 0;
-    while p < Table::MAX_TASKS {
-        if p == n {
-            return t;
+    // The first n, at the start of out.
+    pub(crate) fn put_in_order(&self, out: &mut [u8], n: usize)
+        requires { (n ≤ length self.now.codes.now) × (block_size * n ≤ length out.old) × Placed self.now.input.now self.now.codes.now n }
+        ensures { out.new ≡ in_order self.now.input.now self.now.codes.now n ++ drop (block_size * n) out.old }
+    {
+        // by an index: of parts that `chunks_exact_mut` lends, a proof learns nothing of the whole
+        for p in 0..n {
+            out[SIZE * p..SIZE * p + SIZE].copy_from_slice(self.numbered(p as u32 + 1));
         }
-        let at = SIZE * place_of(s, list, (p + 1) as u32);
-        t.tasks[p] = block::task_of(&s[at..at + SIZE]);
-        p += 1;
     }
-    t
-}
 
-// The table's own refusals.
-pub(crate) fn check_table(s: &[u8], list: &[u8], n: usize) -> Checked
-    requires { (length list.now ≤ max_blocks) × (block_size * length list.now ≤ length s.now) × (n ≤ max_blocks) × Placed s.now list.now n }
-    ensures { result ≡ table_fault (table_in (in_order s.now list.now n)) }
-{
-    checking::check(table_of(s, list, n))
-}
-
-// The first n, at the start of out.
-pub(crate) fn put_blocks(out: &mut [u8], s: &[u8], list: &[u8], n: usize)
-    requires { (length list.now ≤ max_blocks) × (block_size * length list.now ≤ length s.now) × (n ≤ length list.now) × (block_size * n ≤ length out.old) × Placed s.now list.now n }
-    ensures { out.new ≡ in_order s.now list.now n ++ drop (block_size * n) out.old }
-{
-    let mut p: usize = 0;
-    while p < n {
-        let q = place_of(s, list, (p + 1) as u32);
-        let at = SIZE * q;
-        put::put_text(&mut out[SIZE * p..], &s[at..at + SIZE]);
-        p += 1;
+    // The archive that the blocks left make, at the start of out, and how many bytes it has; or what is said against them: 14, and then the table's own.
+    #[tactic(auto, unfolding(crate::specs::Salvage::left_fault))]
+    pub(crate) fn mend(&self, out: &mut [u8]) -> Result<usize, Refusal>
+        requires { block_size * length self.now.codes.now ≤ length out.old }
+        ensures { (result ≡ or_wrote (left_fault self.now.input.now self.now.codes.now) (block_size * left_in self.now.codes.now)) × (out.new ≡ or_text (left_fault self.now.input.now self.now.codes.now) (in_order self.now.input.now self.now.codes.now (left_in self.now.codes.now)) out.old) }
+    {
+        self.check_complete()?;
+        let n = self.left();
+        checking::check(self.table(n))?;
+        self.put_in_order(out, n);
+        Ok(SIZE * n)
     }
 }
