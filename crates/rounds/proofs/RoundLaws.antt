@@ -1,26 +1,20 @@
--- The demand over shares: it never falls, it is at least the base, the packed sums give it, and its rounds are those of the definition.
+-- The demand over shares: it never falls, it is at least the base, and its rounds are those of the definition.
 -- Assumes nothing.
-use Prim.Native.Nat.{ℕ, suc, ◌+◌, ◌-◌, ◌*◌, ◌/◌, ◌≤◌, ◌<◌, min}
-use mathlib.Core.Path.{◌≡◌, sym, ap, ap₂, ◌∙◌}
-use mathlib.Core.List.{List}
+use Prim.Native.Nat.{ℕ, suc, ◌+◌, ◌-◌, ◌≤◌, ◌<◌}
+use mathlib.Core.Path.{◌≡◌, sym, ap, ◌∙◌}
 use native.Mathlib.Nat.{le_refl, le_trans, add-le-add}
 use native.Mathlib.Omega.{arith}
-use Rattle.basics.proofs.SumLaws.{sum_none, sum_more, sum_le}
-use Rattle.table.specs.Limits.{max_time}
+use Rattle.basics.proofs.SumLaws.{sum_le}
 use Rattle.theory.specs.declared.Verdict.TheVariants.{Meets, Misses, Open}
 use Rattle.theory.specs.declared.Counted.{Counted}
-use Rattle.theory.specs.Work.{workload, ceil_div}
+use Rattle.theory.specs.Work.{workload}
 use Rattle.theory.specs.Rounds.{one_more, counted_from}
 use Rattle.theory.proofs.LeastLaws.{Rises}
 use Rattle.theory.proofs.RoundLaws.{round_repeats, round_passes, round_goes_on}
 use Rattle.theory.proofs.WorkLaws.{workload_rises, ceil_div_rises}
-use Rattle.rounds.specs.declared.Part.{Part}
-use Rattle.rounds.specs.declared.Wholes.{Wholes}
-use Rattle.rounds.specs.declared.Divided.{Divided}
 use Rattle.rounds.specs.declared.Shares.{Shares}
 use Rattle.rounds.specs.Shares.{share_at, whole_of, part_of, shares_demand}
 use Rattle.rounds.specs.Outcome.{SoundShares}
-use Rattle.rounds.specs.Parts.{part_at, part_load, loads, UncappedIs, WholesAre, DividedAre}
 
 demand_base : (s : Shares) (t : ℕ) → s.base ≤ shares_demand s t
 unfolding shares_demand
@@ -45,37 +39,6 @@ demand_rises s D g t t' h =
 
     part : (l : ℕ) → l < s.n → part_of (share_at s l) t ≤ part_of (share_at s l) t'
     part l k = add-le-add (up l (share_at s l).one k) (up l (share_at s l).two k)
-
--- ---- one round
-
--- the workloads over t of the first i parts, summed
-pub record Summed (xs : List Part) (t i sum : ℕ) : Type 0 where
-  pub is : sum ≡ loads xs i t
-  pub fits : sum ≤ i * max_time
-
-pub summed_none : {xs : List Part} {t : ℕ} → Summed xs t 0 0
-summed_none = record { is = sum_none _; fits = omega arith }
-
-pub summed_more : {xs : List Part} {t i sum x r : ℕ} → t ≤ max_time → Summed xs t i sum → UncappedIs (part_at xs i) t x → r ≡ sum + min t x
-    → Summed xs t (i + 1) r
-summed_more {xs} {t} {i} h s u e =
-    record {
-      is = e ∙ ap₂ ◌+◌ s.is (ap (min t) u.is) ∙ sym (sum_more i (λ j. part_load (part_at xs j) t));
-      fits = omega (arith, s.fits);
-    }
-
--- what a round works out of its two sums
-abbrev pub round_of : Shares → ℕ → ℕ → ℕ
-round_of s whole part = s.base + whole + (part + (s.cpus - 1)) / s.cpus
-
-pub round_is : {s : Shares} {x : Wholes} {y : Divided} {t i j whole part : ℕ} → WholesAre s x → DividedAre s y → 1 ≤ t
-    → Summed x.of t i whole → i ≡ x.n → Summed y.of t j part → j ≡ y.n
-    → round_of s whole part ≡ shares_demand s t
-unfolding shares_demand ceil_div
-round_is {s} {x} {y} {t} p d h w a q b =
-    ap₂ (round_of s)
-    (w.is ∙ ap (λ (n : ℕ). loads x.of n t) a ∙ p.are t h)
-    (q.is ∙ ap (λ (n : ℕ). loads y.of n t) b ∙ d.are t h)
 
 -- ---- the rounds
 

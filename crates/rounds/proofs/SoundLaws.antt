@@ -1,6 +1,9 @@
 -- Shares are sound exactly if the test of them holds.
 -- Assumes nothing.
-use Prim.Native.Nat.{ℕ, ◌≤◌}
+use Prim.Native.Nat.{ℕ, zero, suc, ◌+◌, ◌≤◌}
+use Rattle.std.proofs.Common.{List, length, take, refl, arith}
+use Rattle.std.specs.List.{list_all}
+use Rattle.std.proofs.lemmas.List.Folds.{list_all_more}
 use mathlib.Core.Path.{◌≡◌}
 use mathlib.Core.Bool.{Bool, true, false}
 use lib.Dec.{leb}
@@ -12,7 +15,7 @@ use Rattle.basics.proofs.AllLaws.{all_at, all_hold}
 use Rattle.table.specs.Limits.{max_cpus, max_tasks, max_time}
 use Rattle.rounds.specs.declared.Share.{Share}
 use Rattle.rounds.specs.declared.Shares.{Shares}
-use Rattle.rounds.specs.Shares.{share_at}
+use Rattle.rounds.specs.Shares.{no_share, share_in, share_at}
 use Rattle.rounds.specs.Outcome.{max_base, share_fits, head_fits, is_sound, Sound, SoundShare, SoundHead, SoundShares}
 
 fits_sound : (e : Share) → share_fits e ≡ true → SoundShare e
@@ -92,3 +95,11 @@ sound_test s D g =
       within_in s.start max_time D h.start_deadline h.deadline_most,
       all_hold s.n (λ l. share_fits (share_at s l)) (λ l q. sound_fits _ (g.row.each l q)),
     )
+
+-- the test over the first n shares, as the library says it of a slice
+pub all_shares : (xs : List Share) (n : ℕ) → n ≤ length xs → list_all share_fits (take n xs) ≡ all_to n (λ l. share_fits (share_in xs l))
+unfolding all_to
+all_shares xs zero h = refl
+all_shares xs (suc n) h =
+    let e : suc n ≡ n + 1 = omega arith in
+    rw (e, list_all_more share_fits xs n no_share h, all_shares xs n (omega arith))

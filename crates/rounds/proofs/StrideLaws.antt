@@ -2,21 +2,18 @@
 -- Assumes nothing.
 use Prim.Native.Nat.{ℕ, zero, suc, ◌+◌, ◌-◌, ◌*◌, ◌/◌, ◌≤◌, ◌<◌, min}
 use mathlib.Core.Path.{◌≡◌, sym, ap, subst₂}
-use mathlib.Core.List.{List}
 use native.Mathlib.Nat.{le_refl, mul-le-mul_right, div-mul-le_self, lt-div-mul-add, div-eq_of_lt-le}
 use native.Mathlib.Decide.{dec_lt}
 use native.Mathlib.Omega.{arith}
-use Rattle.basics.proofs.SumLaws.{sum_none, sum_more}
 use Rattle.theory.specs.Work.{jobs, ceil_div}
 use Rattle.theory.proofs.WorkLaws.{jobs_rise, ceil_div_whole}
 use Rattle.rounds.specs.declared.Part.{Part}
-use Rattle.rounds.specs.declared.Wholes.{Wholes}
-use Rattle.rounds.specs.declared.Divided.{Divided}
+use Rattle.rounds.specs.declared.Parts.{Parts}
 use Rattle.rounds.specs.declared.Shares.{Shares}
 use Rattle.rounds.specs.declared.strides.Course.{Course}
-use Rattle.rounds.specs.Shares.{shares_demand}
+use Rattle.rounds.specs.Shares.{whole_of, part_of, shares_demand}
 use Rattle.rounds.specs.Outcome.{SoundShares}
-use Rattle.rounds.specs.Parts.{part_at, part_uncapped, part_load, loads, GoodPart, WholesAre, DividedAre}
+use Rattle.rounds.specs.Parts.{part_uncapped, part_load, PartsAre}
 use Rattle.rounds.specs.Strides.{Straight, CourseIs, GoneIs, StrideIs, rows_demand}
 use Rattle.rounds.proofs.RoundLaws.{Sought, Round, round_more}
 
@@ -35,14 +32,14 @@ module _ {s : Shares} {D A t used climb : ℕ} (g : SoundShares s D) (p : 1 ≤ 
       subst₂ (λ (v w : ℕ). Sought s D A v w) (omega arith) (omega arith) (round_more o (omega arith) (omega arith) (λ z. omega (arith, z)))
 
 -- the demand by the rows
-rows_are : {s : Shares} {w : Wholes} {d : Divided} → WholesAre s w → DividedAre s d → (t : ℕ) → 1 ≤ t
+pub rows_are : {s : Shares} {N M : ℕ} {w : Parts N} {d : Parts M} → PartsAre s s.n whole_of w → PartsAre s s.n part_of d → (t : ℕ) → 1 ≤ t
     → s.base + rows_demand w d s.cpus t ≡ shares_demand s t
 unfolding shares_demand
 rows_are p q t h = rw (p.are t h, q.are t h) (omega arith)
 
 -- a stride from t on, where the round at t climbs by `climb`
-pub stride_more : {s : Shares} {w : Wholes} {d : Divided} {D A t used f climb reach headway left r : ℕ} → Round s D A t used f → WholesAre s w → DividedAre s d
-    → Straight (rows_demand w d s.cpus) t 1 reach → StrideIs reach climb headway left r
+pub stride_more : {s : Shares} {N M : ℕ} {w : Parts N} {d : Parts M} {D A t used f climb reach headway left r : ℕ} → Round s D A t used f
+    → PartsAre s s.n whole_of w → PartsAre s s.n part_of d → Straight (rows_demand w d s.cpus) t 1 reach → StrideIs reach climb headway left r
     → t + climb ≡ f → 1 ≤ climb → t + headway ≤ D → used + left < A → Sought s D A (t + r * climb) (used + r)
 stride_more {s} {t} {climb} {r} o p q straight st e c a b =
     rounds_alike o.sound c r o.sought alike (omega (arith, st.fits)) (omega (arith, st.few))
@@ -72,29 +69,29 @@ jobs_full : (T a : ℕ) → 0 < T → jobs T T a ≡ a
 unfolding jobs
 jobs_full T a pos = omega (arith, div-mul-le_self a T, lt-div-mul-add {a = a} pos)
 
-module _ (e : Part) (t : ℕ) (good : GoodPart e) where
+module _ (e : Part) (t : ℕ) where
   shift : (g : ℕ) → t + g + e.off ≡ t + e.off + g
   shift g = omega arith
 
   load_on : {r : ℕ} → GoneIs e t r → (g : ℕ) → r + g ≤ e.period → part_uncapped e (t + g) ≡ (t + e.off) / e.period * e.units + min e.units (r + g)
-  load_on {r} p g h = rw (shift g, p.is) (jobs_on e.period e.units (t + e.off) g good.period_least good.units_period (omega (arith, p.is)) (dec_lt _ _))
+  load_on {r} p g h = rw (shift g, p.is) (jobs_on e.period e.units (t + e.off) g e.good.period_least e.good.units_period (omega (arith, p.is)) (dec_lt _ _))
 
   load_here : {r : ℕ} → GoneIs e t r → part_uncapped e t ≡ (t + e.off) / e.period * e.units + min e.units r
   unfolding jobs
   load_here p = rw p.is
 
   pub goes_full : e.units ≡ e.period → (reach : ℕ) → Straight (part_load e) t 1 reach
-  goes_full q reach g h = rw q (omega (arith, jobs_full e.period (t + g + e.off) good.period_least, jobs_full e.period (t + e.off) good.period_least))
+  goes_full q reach g h = rw q (omega (arith, jobs_full e.period (t + g + e.off) e.good.period_least, jobs_full e.period (t + e.off) e.good.period_least))
 
   -- a job runs
   pub goes_running : {r reach : ℕ} → GoneIs e t r → r + reach ≤ e.units → Straight (part_load e) t 1 reach
-  goes_running p h g k = omega (arith, good.units_period, load_on p g (omega (arith, good.units_period)), load_here p)
+  goes_running p h g k = omega (arith, e.good.units_period, load_on p g (omega (arith, e.good.units_period)), load_here p)
 
   -- the cap holds it at t
   pub goes_capped : {reach : ℕ} → t + reach ≤ part_uncapped e t → Straight (part_load e) t 1 reach
   goes_capped h g k =
       let l : t + e.off ≤ t + e.off + g = omega arith in
-      rw (shift g) (omega (arith, jobs_rise {T = e.period} {T' = e.period} e.units good.period_least (le_refl e.period) l))
+      rw (shift g) (omega (arith, jobs_rise {T = e.period} {T' = e.period} e.units e.good.period_least (le_refl e.period) l))
 
   -- neither does a job run nor does the cap hold it
   pub goes_flat : {r reach : ℕ} → GoneIs e t r → part_uncapped e t ≤ t → e.units ≤ r → r + reach ≤ e.period → Straight (part_load e) t 0 reach
@@ -102,22 +99,19 @@ module _ (e : Part) (t : ℕ) (good : GoodPart e) where
 
 -- ---- the workloads of a row
 
-pub course_none : (xs : List Part) {t reach : ℕ} → CourseIs (loads xs 0) 0 t (record { rises = 0; reach = reach })
-course_none xs {t} =
-    record {
-      few = omega arith;
-      straight = λ g h. omega (arith, sum_none (λ j. part_load (part_at xs j) (t + g)), sum_none (λ j. part_load (part_at xs j) t));
-    }
-
-pub course_more : (xs : List Part) (n : ℕ) {t : ℕ} {r one r' : Course} → CourseIs (loads xs n) n t r → CourseIs (part_load (part_at xs n)) 1 t one
-    → r'.rises ≡ r.rises + one.rises → r'.reach ≡ min r.reach one.reach → CourseIs (loads xs (n + 1)) (n + 1) t r'
-course_more xs n {t} p q e f =
+-- a sum and one workload more
+pub course_more : {f g h : ℕ → ℕ} {n t : ℕ} {r one r' : Course} → CourseIs f n t r → CourseIs g 1 t one → ((s : ℕ) → h s ≡ f s + g s)
+    → r'.rises ≡ r.rises + one.rises → r'.reach ≡ min r.reach one.reach → CourseIs h (n + 1) t r'
+course_more {t} p q a e f =
     record {
       few = omega (arith, p.few, q.few);
-      straight = λ g h.
-          let a : ℕ → ℕ → ℕ = λ s j. part_load (part_at xs j) s in
-          rw e (omega (arith, sum_more n (a (t + g)), sum_more n (a t), p.straight g (omega arith), q.straight g (omega arith)));
+      straight = λ g h. rw e (omega (arith, a (t + g), a t, p.straight g (omega arith), q.straight g (omega arith)));
     }
+
+-- the same sum, said in another way, of no fewer
+pub course_same : {f h : ℕ → ℕ} {n m t : ℕ} {r : Course} → CourseIs f n t r → n ≤ m → ((s : ℕ) → h s ≡ f s) → CourseIs h m t r
+course_same {t} p l e =
+    record { few = omega (arith, p.few); straight = λ g h. omega (arith, e (t + g), e t, p.straight g h) }
 
 -- ---- the demand over the rows
 
@@ -132,22 +126,7 @@ straight_none f t g h =
 -- divided by m rises by m with each microsecond.
 pub rises_evenly : (w d : ℕ → ℕ) (t : ℕ) {m reach n n' : ℕ} {x y : Course} → 1 ≤ m → CourseIs w n t x → CourseIs d n' t y → x.rises * m + y.rises ≡ m
     → reach ≤ x.reach → reach ≤ y.reach → Straight (λ s. w s + ceil_div (d s) m) t 1 reach
-rises_evenly w d t {m} {x} {y} pos p q e a b g h =
+rises_evenly w d t {m} {x} {y} pos p q e k l g h =
     let i : (x.rises * m + y.rises) * g ≡ m * g = rw e in
     let z : d (t + g) + w (t + g) * m ≡ d t + (w t + g) * m = rw (p.straight g (omega arith), q.straight g (omega arith)) (omega (arith, i)) in
     omega (arith, ceil_div_whole m (w (t + g)) (d (t + g)) pos, ceil_div_whole m (w t + g) (d t) pos, ap (λ (k : ℕ). ceil_div k m) z)
-
--- ---- how many rounds
-
-pub stride_is : {reach climb headway left far r : ℕ} → 1 ≤ left → climb ≤ headway → far ≡ min reach (headway - climb)
-    → r ≡ min (far / climb) (left - 1) + 1 → StrideIs reach climb headway left r
-stride_is {climb} {far} {r} a b c e =
-    let z : far / climb * climb ≤ far = div-mul-le_self far climb in
-    let s : (r - 1) * climb ≤ far / climb * climb = mul-le-mul_right climb (omega arith) in
-    let j : r ≡ r - 1 + 1 = omega arith in
-    record {
-      some = omega arith;
-      few = omega arith;
-      fits = rw j (omega arith);
-      begins = omega arith;
-    }

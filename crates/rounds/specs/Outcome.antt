@@ -1,13 +1,12 @@
 -- Shares are sound where they can be those of an accepted table: then every sum and product of a round fits. The outcome of others is that they are not.
-use Rattle.std.specs.Prelude.{ℕ, ◌+◌, ◌*◌, ◌≤◌, ◌<◌, Bool, ◌&&◌, leb}
+use Rattle.std.specs.Prelude.{ℕ, ◌+◌, ◌*◌, ◌≤◌, ◌<◌, Bool, ◌&&◌, leb, Option, Some, None}
 use Rattle.basics.specs.Choice.{pick, within}
 use Rattle.basics.specs.Over.{all_to}
 use Rattle.table.specs.Limits.{max_cpus, max_tasks, max_resources, max_time, max_count}
 use Rattle.theory.specs.Rounds.{counted_from}
 use Rattle.rounds.specs.declared.Share.{Share}
 use Rattle.rounds.specs.declared.Shares.{Shares}
-use Rattle.rounds.specs.declared.Outcome.{Outcome}
-use Rattle.rounds.specs.declared.Outcome.TheVariants.{Of, Unsound}
+use Rattle.theory.specs.declared.Counted.{Counted}
 use Rattle.rounds.specs.Shares.{share_at, shares_demand}
 
 -- the most that DB can be, each of the resources asked for as often as may be and waited for as long; and C + DB
@@ -31,8 +30,8 @@ head_fits start base cpus n D =
 unfoldable pub is_sound : Shares → ℕ → Bool
 is_sound s D = head_fits s.start s.base s.cpus s.n D && all_to s.n (λ l. share_fits (share_at s l))
 
-unfoldable pub outcome_of : Shares → ℕ → ℕ → Outcome
-outcome_of s D allowance = pick (is_sound s D) (Of (counted_from (shares_demand s) D allowance s.start)) Unsound
+unfoldable pub outcome_of : Shares → ℕ → ℕ → Option Counted
+outcome_of s D allowance = pick (is_sound s D) (Some (counted_from (shares_demand s) D allowance s.start)) None
 
 -- ---- the same as facts
 

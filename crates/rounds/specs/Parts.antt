@@ -1,24 +1,19 @@
--- The shares that count, packed in front, and the multiplier that divides by a period.
-use Rattle.std.specs.Prelude.{ℕ, ◌+◌, ◌-◌, ◌*◌, ◌/◌, ◌^◌, ◌≤◌, ◌<◌, min, ◌≡◌, List, get_or}
+-- The shares that count, packed in front of two rows, and what a round works out of them.
+use Rattle.std.specs.Prelude.{ℕ, ◌+◌, ◌-◌, ◌*◌, ◌≤◌, min, ◌≡◌, List, take}
+use Rattle.std.specs.List.{sum_by}
 use Rattle.basics.specs.Over.{sum_to}
 use Rattle.table.specs.Limits.{max_tasks, max_time}
-use Rattle.theory.specs.Work.{jobs}
+use Rattle.theory.specs.Work.{jobs, workload}
 use Rattle.rounds.specs.declared.Part.{Part}
-use Rattle.rounds.specs.declared.Wholes.{Wholes}
-use Rattle.rounds.specs.declared.Divided.{Divided}
+use Rattle.rounds.specs.declared.Parts.{Parts}
+use Rattle.rounds.specs.declared.Share.{Share}
 use Rattle.rounds.specs.declared.Shares.{Shares}
-use Rattle.rounds.specs.Shares.{share_at, whole_of, part_of}
+use Rattle.rounds.specs.Shares.{share_at}
+use Rattle.rounds.specs.Part.{max_span}
 
--- the most that t + off can be: a length and an offset are times
-abbrev pub max_span : ℕ
-max_span = max_time + max_time
-
--- the most that either sum of a round can come to: at most two workloads of each task, each at most t
+-- the most that a sum of a round can come to: at most two workloads of each task, each at most t
 abbrev pub max_sum : ℕ
 max_sum = 2 * max_tasks * max_time
-
-abbrev pub part_at : List Part → ℕ → Part
-part_at xs j = get_or xs j (record { period = 0; units = 0; off = 0; shift = 0; mul = 0 })
 
 -- the workload over t ≥ 1 of a part: by document 01, and at most t
 abbrev pub part_uncapped : Part → ℕ → ℕ
@@ -27,45 +22,30 @@ part_uncapped e t = jobs e.period e.units (t + e.off)
 abbrev pub part_load : Part → ℕ → ℕ
 part_load e t = min t (part_uncapped e t)
 
--- the multiplier and the shift divide every number that comes up, t + off, by the period. The largest multiplier is 2^38 + 1 (`part_of`)
-pub record Divides (T shift mul : ℕ) : Type 0 where
-  pub short : shift < 64
-  pub small : mul ≤ 2 ^ 38 + 1
-  pub right : (a : ℕ) → a ≤ max_span → a * mul / 2 ^ shift ≡ a / T
-
-pub record GoodPart (e : Part) : Type 0 where
-  pub period_least : 1 ≤ e.period
-  pub units_period : e.units ≤ e.period
-  pub near : e.off ≤ max_time
-  pub divides : Divides e.period e.shift e.mul
-
 pub record PartIs (T D x : ℕ) (e : Part) : Type 0 where
   pub period : e.period ≡ T
   pub units : e.units ≡ x
   pub off : e.off ≡ D - x
-  pub good : GoodPart e
 
 pub record UncappedIs (e : Part) (t r : ℕ) : Type 0 where
   pub is : r ≡ part_uncapped e t
   pub fits : r ≤ max_span
 
--- ---- the rows
+-- ---- a row
 
 -- the workloads over t of the first n parts
 abbrev pub loads : List Part → ℕ → ℕ → ℕ
-loads xs n t = sum_to n (λ j. part_load (part_at xs j) t)
+loads xs n t = sum_by (λ e. part_load e t) (take n xs)
 
--- in front of a row there are n good parts, and no more than it can hold
-pub record GoodRow (most : ℕ) (xs : List Part) (n : ℕ) : Type 0 where
-  pub few : n ≤ most
-  pub good : (j : ℕ) → j < n → GoodPart (part_at xs j)
+pub record LoadIs {N : ℕ} (r : Parts N) (t x : ℕ) : Type 0 where
+  pub is : x ≡ loads r.of r.n t
+  pub fits : x ≤ max_sum
 
--- the parts of the shares that count whole, those of no units left out, come to what the shares come to
-pub record WholesAre (s : Shares) (r : Wholes) : Type 0 where
-  pub row : GoodRow max_tasks r.of r.n
-  pub are : (t : ℕ) → 1 ≤ t → loads r.of r.n t ≡ sum_to s.n (λ l. whole_of (share_at s l) t)
+-- x units of a share are in the row too, unless they are none
+pub record PushIs {N : ℕ} (old : Parts N) (e : Share) (x : ℕ) (new : Parts N) : Type 0 where
+  pub one : new.n ≤ old.n + 1
+  pub are : (t : ℕ) → 1 ≤ t → loads new.of new.n t ≡ loads old.of old.n t + workload e.period e.deadline t x
 
--- and so do those that are divided
-pub record DividedAre (s : Shares) (r : Divided) : Type 0 where
-  pub row : GoodRow (2 * max_tasks) r.of r.n
-  pub are : (t : ℕ) → 1 ≤ t → loads r.of r.n t ≡ sum_to s.n (λ l. part_of (share_at s l) t)
+-- the row comes to what the first k shares come to, each to what f says of it
+pub record PartsAre {N : ℕ} (s : Shares) (k : ℕ) (f : Share → ℕ → ℕ) (r : Parts N) : Type 0 where
+  pub are : (t : ℕ) → 1 ≤ t → loads r.of r.n t ≡ sum_to k (λ l. f (share_at s l) t)

@@ -2,8 +2,7 @@
 use Rattle.std.specs.Prelude.{ℕ, ◌+◌, ◌-◌, ◌*◌, ◌/◌, ◌≤◌, ◌<◌, ◌≡◌}
 use Rattle.theory.specs.Work.{ceil_div}
 use Rattle.rounds.specs.declared.Part.{Part}
-use Rattle.rounds.specs.declared.Wholes.{Wholes}
-use Rattle.rounds.specs.declared.Divided.{Divided}
+use Rattle.rounds.specs.declared.Parts.{Parts}
 use Rattle.rounds.specs.declared.strides.Course.{Course}
 use Rattle.rounds.specs.Parts.{loads}
 
@@ -22,7 +21,7 @@ pub record GoneIs (e : Part) (t r : ℕ) : Type 0 where
   pub less : r < e.period
 
 -- what the rows come to over t: the demand less C + DB
-abbrev pub rows_demand : Wholes → Divided → ℕ → ℕ → ℕ
+abbrev pub rows_demand : {N M : ℕ} → Parts N → Parts M → ℕ → ℕ → ℕ
 rows_demand w d m t = loads w.of w.n t + ceil_div (loads d.of d.n t) m
 
 -- r rounds that climb by `climb` each: no more than `left` of them, no further than `headway` together, and the last begins no further on from the first than `reach`

@@ -11,7 +11,7 @@ use Rattle.basics.specs.Choice.{only}
 use Rattle.basics.specs.Over.{sum_to, max_to, all_to, first_to, count_to}
 use Rattle.basics.proofs.AllLaws.{all_at}
 use Rattle.basics.proofs.SumLaws.{sum_eq}
-use Rattle.table.specs.declared.Checked.TheVariants.{Fine}
+use Rattle.std.specs.Prelude.{Ok}
 use Rattle.table.specs.Faults.{first_fault}
 use Rattle.table.specs.Rules.{times_in_range, times_in_order, times_fault, is_unused, used_in_range, pair_in_range, totals_fit, pair_fault, pairs_fault, alpha_fault, task_fault, last_alpha, tasks_fault, table_fault, groups_in_range}
 use Rattle.theory.specs.Work.{uncapped, workload, jobs, ceil_div}
@@ -32,7 +32,7 @@ use Rattle.schedules.proofs.RepeatLaws.{cycle_after_cycle, runs_again, repeats}
 abbrev shown_view : View
 shown_view = view_of shown_table
 
-accepted : table_fault shown_table ≡ Fine
+accepted : table_fault shown_table ≡ Ok tt
 unfolding shown_table sum_to first_fault times_in_range times_in_order times_fault is_unused used_in_range pair_in_range totals_fit pair_fault pairs_fault alpha_fault task_fault last_alpha tasks_fault table_fault groups_in_range all_to
 accepted = refl
 

@@ -6,7 +6,7 @@ use Rattle.basics.specs.Over.{count_to}
 use Rattle.table.specs.declared.Table.{Table}
 use Rattle.table.specs.declared.Pair.{Pair}
 use Rattle.table.specs.declared.Task.{Task}
-use Rattle.table.specs.declared.Checked.TheVariants.{Fine}
+use Rattle.std.specs.Prelude.{Ok}
 use Rattle.table.specs.Empty.{unused_pair, no_groups, empty_task}
 use Rattle.table.specs.At.{a_pair, a_task}
 use Rattle.table.specs.Rules.{table_fault}
@@ -57,7 +57,7 @@ abbrev pub shown_run : Schedule
 shown_run = run_of shown_picture
 
 pub record Shown : Type 0 where
-  pub accepted : table_fault shown_table ≡ Fine
+  pub accepted : table_fault shown_table ≡ Ok tt
   pub bounded : (i : ℕ) → i < 4 → Least (demand_of (view_of shown_table) (level i)) ((view_of shown_table).D (level i)) (get_or shown_bounds i 0)
   pub generated : Generated (view_of shown_table) shown_jobs
   pub scheduled : (E : ℕ) → UnderPIP (view_of shown_table) shown_jobs shown_run E
@@ -106,7 +106,7 @@ miss_picture =
     }
 
 pub record BesideMiss : Type 0 where
-  pub accepted : table_fault miss_table ≡ Fine
+  pub accepted : table_fault miss_table ≡ Ok tt
   pub misses : None (demand_of (view_of miss_table) (level 0)) ((view_of miss_table).D (level 0))
   pub meets : Least (demand_of (view_of miss_table) (level 1)) ((view_of miss_table).D (level 1)) 4
   pub generated : Generated (view_of miss_table) (jobs_of miss_picture)

@@ -3,6 +3,7 @@
 use Prim.Native.Nat.{ℕ, zero, suc, ◌+◌, ◌≤◌, ◌<◌}
 use mathlib.Core.Path.{◌≡◌, refl, sym, ap, ◌∙◌}
 use mathlib.Core.Bool.{Bool, true, false}
+use mathlib.Core.List.{List}
 use native.Mathlib.Nat.{le_refl, add-zero}
 use native.Mathlib.Numerals.{add-one}
 use native.Mathlib.Omega.{arith}
@@ -17,8 +18,6 @@ use Rattle.table.specs.Limits.{max_tasks, max_resources}
 use Rattle.table.specs.At.{task_at}
 use Rattle.theory.specs.View.{level, resource, is_above, ceiling}
 use Rattle.theory.proofs.PassLaws.{ceiling_above}
-use Rattle.shares.specs.declared.Marks.{Marks}
-use Rattle.shares.specs.declared.Ceilings.{Ceilings}
 use Rattle.theory.specs.Tables.{view_of}
 use Rattle.shares.specs.Pass.{mark_at, ceiling_at, ceiling_with, CeilingsWith, HighIn, CeilingsTo}
 
@@ -42,21 +41,21 @@ with_own e i zero = refl
 with_own e i (suc n) = rw (lt-ltb 0 (suc n) (omega arith)) (own_not e i (is_above i e) refl)
 
 -- the marks that are then made: the resources with a ceiling above i
-abbrev pub AboveIs : Table → ℕ → Marks → Type 0
+abbrev pub AboveIs : Table → ℕ → List Bool → Type 0
 AboveIs t i m = (k : ℕ) → k < max_resources → mark_at m k ≡ is_above (ceiling (view_of t) (resource k)) (level i)
 
 -- at first no ceiling is known: 33 stands for each
-pub ceilings_none : (t : Table) (i : ℕ) → i < max_tasks → CeilingsTo t i 0 (record { of = replicate max_resources (level max_tasks) })
+pub ceilings_none : (t : Table) (i : ℕ) → i < max_tasks → CeilingsTo t i 0 (replicate max_resources (level max_tasks))
 ceilings_none t i h k q = rw (get_or-replicate max_resources k (level max_tasks) _ q, le-ltb (level max_tasks).0 (level i).0 (omega arith), ← sum_none)
 
-module _ (t : Table) (i : ℕ) (c r : Ceilings) where
+module _ (t : Table) (i : ℕ) (c r : List Level) where
   pub ceilings_more : (l : ℕ) → l < i → CeilingsTo t i l c → CeilingsWith c (task_at t l) (record { 0 = l + 1 }) r → CeilingsTo t i (l + 1) r
   ceilings_more l h is w k q =
       ap (λ (e : Level). is_above e (level i)) (w.each k q)
       ∙ with_above (ceiling_at c k) (record { 0 = l + 1 }) (level i) ((view_of t).N (level l) (resource k)) _ (omega arith) (is k q)
       ∙ sym (ap (ltb 0) (sum_more l (λ j. (view_of t).N (level j) (resource k))))
 
-  pub ceilings_all : (m : Marks) → i ≤ t.n → CeilingsTo t i i c → CeilingsWith c (task_at t i) (record { 0 = i + 1 }) r
+  pub ceilings_all : (m : List Bool) → i ≤ t.n → CeilingsTo t i i c → CeilingsWith c (task_at t i) (record { 0 = i + 1 }) r
       → HighIn r (record { 0 = i + 1 }) m → AboveIs t i m
   ceilings_all m h is w g k q =
       g.each k q

@@ -1,10 +1,8 @@
---   EachLaws      a row of which each element below a place is known
 --   ShareLaws     the shares of a table as relations
 --   CeilingLaws   the ceilings that the pass keeps; PeakLaws: the longest requests that it keeps
 --   PassShares    the shares that the passes make
 --   SoundLaws     the shares of an accepted table are sound; Reduce: their demand is the table's
 --   Determined    two answers are equal
-pub mod EachLaws
 pub mod ShareLaws
 pub mod CeilingLaws
 pub mod PeakLaws

@@ -2,6 +2,7 @@
 -- Assumes nothing.
 use Prim.Native.Nat.{ℕ, ◌+◌, ◌*◌, ◌≤◌, ◌<◌, max}
 use mathlib.Core.Path.{◌≡◌, ap, ◌∙◌}
+use mathlib.Core.List.{List}
 use native.Mathlib.Nat.{le_refl, le_trans, mul-le-mul}
 use native.Mathlib.Omega.{arith}
 use borrow.Author.Tests.{lt-ltb}
@@ -18,20 +19,19 @@ use Rattle.theory.specs.View.{level, resource, is_above, largest_below, uses}
 use Rattle.theory.specs.Demand.{DB}
 use Rattle.theory.proofs.PassLaws.{largest_none, where_used}
 use Rattle.rounds.specs.Outcome.{max_wait}
-use Rattle.shares.specs.declared.Peaks.{Peaks}
 use Rattle.theory.specs.Groups.{InBounds}
 use Rattle.theory.specs.Tables.{view_of}
 use Rattle.shares.specs.Pass.{wait_at, RaisedBy, PeaksTo}
 
-pub peaks_none : (t : Table) (i : ℕ) → PeaksTo t i (i + 1) (record { longest = replicate max_resources 0 })
+pub peaks_none : (t : Table) (i : ℕ) → PeaksTo t i (i + 1) (replicate max_resources 0)
 peaks_none t i k q = get_or-replicate max_resources k 0 0 q ∙ largest_none i (λ l. (view_of t).c l (resource k))
 
-pub peaks_more : (t : Table) (i j : ℕ) (m r : Peaks) → i < j → PeaksTo t i j m → RaisedBy m (task_at t j) r → PeaksTo t i (j + 1) r
+pub peaks_more : (t : Table) (i j : ℕ) (m r : List ℕ) → i < j → PeaksTo t i j m → RaisedBy m (task_at t j) r → PeaksTo t i (j + 1) r
 peaks_more t i j m r h is w k q =
     w.each k q
     ∙ rw (max_more, lt-ltb (level i).0 (level j).0 (omega arith)) (ap (λ (x : ℕ). max x (pair_at t j k).longest) (is k q))
 
-pub wait_is : (t : Table) (i : ℕ) (m : Peaks) → PeaksTo t i t.n m → sum_to max_resources (wait_at m (task_at t i)) ≡ DB (view_of t) (level i)
+pub wait_is : (t : Table) (i : ℕ) (m : List ℕ) → PeaksTo t i t.n m → sum_to max_resources (wait_at m (task_at t i)) ≡ DB (view_of t) (level i)
 unfolding DB
 wait_is t i m is =
     let v = view_of t in

@@ -21,7 +21,7 @@ use Rattle.basics.proofs.RowLaws.{row_at}
 use Rattle.table.specs.declared.Pair.{Pair}
 use Rattle.table.specs.declared.Task.{Task}
 use Rattle.table.specs.declared.Table.{Table}
-use Rattle.table.specs.declared.Checked.TheVariants.{Fine}
+use Rattle.std.specs.Prelude.{Ok}
 use Rattle.table.specs.Limits.{max_tasks, max_resources, max_time, max_count}
 use Rattle.table.specs.Empty.{unused_pair, empty_task}
 use Rattle.table.specs.At.{no_task, a_pair, task_at, group_at, NoGroup, pair_of, pair_at, total_of}
@@ -242,7 +242,7 @@ module _ (t : Table) (x y : Task) (m : MergedTask t x y) (g : GoodTask x) where
         );
       }
 
-pub merged_bounds : (t : Table) → table_fault t ≡ Fine → InBounds (merged t)
+pub merged_bounds : (t : Table) → table_fault t ≡ Ok tt → InBounds (merged t)
 merged_bounds t e =
     let a = fine_accepted t e in
     record {

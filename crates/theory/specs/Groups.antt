@@ -5,7 +5,7 @@ use Rattle.basics.specs.Over.{sum_to, max_to}
 use Rattle.table.specs.declared.Pair.{Pair}
 use Rattle.table.specs.declared.Task.{Task}
 use Rattle.table.specs.declared.Table.{Table}
-use Rattle.table.specs.declared.Checked.TheVariants.{Fine}
+use Rattle.std.specs.Prelude.{Ok}
 use Rattle.table.specs.Limits.{max_cpus, max_tasks, max_resources, max_time, max_count, max_alpha}
 use Rattle.table.specs.Empty.{unused_pair}
 use Rattle.table.specs.At.{a_pair, task_at, group_at, pair_of, pair_at, total_of}
@@ -39,7 +39,7 @@ pub record MergedPairs (t : Table) (i : ℕ) : Type 0 where
 
 -- the two agree
 abbrev pub MergedAgrees : Type 0
-MergedAgrees = (t : Table) (i : ℕ) → table_fault t ≡ Fine → i < t.n → MergedPairs t i
+MergedAgrees = (t : Table) (i : ℕ) → table_fault t ≡ Ok tt → i < t.n → MergedPairs t i
 
 -- ---- what holds of the merged pairs of an accepted table, so that sums and products of them fit
 

@@ -1,34 +1,22 @@
-use borrow.Author.Rules.{rules}
-use mathlib.Core.Path.{◌≡◌, sym, ap, ◌∙◌}
-use native.Mathlib.Omega.{arith}
-use Prim.Native.Nat.{ℕ}
-use Rattle.basics.specs.Over.{all_to}
-use Rattle.basics.proofs.ChoiceLaws.{stops, passes}
-use Rattle.basics.proofs.AllLaws.{all_none, all_more, all_fails}
-use Rattle.rounds.specs.Shares.{share_at}
+-- `rounds::is_sound` meets its contract. Assumes nothing.
+use Rattle.std.proofs.Common.{◌≡◌, false, take, sym, ◌∙◌, arith, rules, tests}
+use Rattle.std.proofs.lemmas.Iterator.{YieldsList-from_slice}
+use Rattle.std.proofs.lemmas.Iterator.Search.{all_from_yields_List}
 use Rattle.rounds.specs.Outcome.{share_fits}
-use Rattle.rounds.proofs.SoundLaws.{head_tasks, sound_head, sound_all}
+use Rattle.rounds.proofs.SoundLaws.{head_tasks, sound_head, sound_all, all_shares}
 use Rattle.rounds.proofs.is_sound.Goals as goal
 
-pub returns-then-not-head_fits : goal.returns-then-not-head_fits
-returns-then-not-head_fits c = sym (sound_head _ _ (stops c.head_fits.ensures c.if-not-head_fits.true-raw))
+pub shared_ref_as_front-iter : goal.shared_ref_as_front-iter
+shared_ref_as_front-iter c = head_tasks c.args.s.now c.args.deadline cc
 
-pub loop-k-init : goal.loop-k-init
-loop-k-init c =
-    let h = passes c.head_fits.ensures c.if-not-head_fits.false-raw in
-    (h, search rules, head_tasks c.args.s _ h, all_none _)
+pub returns-then-head_fits : goal.returns-then-head_fits
+returns-then-head_fits c =
+    let s = c.args.s.now in
+    let all = all_from_yields_List share_fits _ _ c.all.result c.all.ensures.ran (YieldsList-from_slice (take s.n s.of) cc) (λ x b q k. search (rules, tests)) in
+    let few = head_tasks s c.args.deadline cc in
+    sym (sound_all s c.args.deadline (cc) (sym (all ∙ all_shares s.of s.n (omega arith))))
 
-pub returns-then-not-share_fits : goal.returns-then-not-share_fits
-returns-then-not-share_fits c =
-    sym (sound_all _ _ c.loop-k.invariant.0 (all_fails _ c.loop-k.k _ (omega arith) (stops c.share_fits.ensures c.if-not-share_fits.true-raw)))
-
-pub loop-k-preserved : goal.loop-k-preserved
-loop-k-preserved c =
-    (c.loop-k.invariant.0, search rules, c.loop-k.invariant.2, all_more c.loop-k.k _ c.loop-k.invariant.3 (passes c.share_fits.ensures c.if-not-share_fits.false-raw))
-
-pub returns : goal.returns
-returns c =
-    let l = c.loop-k in
-    let s = c.args.s in
-    let e : l.k ≡ s.n = omega arith in
-    sym (sound_all s _ l.invariant.0 (ap (λ (n : ℕ). all_to n (λ j. share_fits (share_at s j))) (sym e) ∙ l.invariant.3))
+pub returns-else-head_fits : goal.returns-else-head_fits
+returns-else-head_fits c =
+    let fails : c.head_fits.result ≡ false = cc in
+    fails ∙ sym (sound_head c.args.s.now c.args.deadline cc)

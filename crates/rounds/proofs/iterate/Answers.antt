@@ -1,76 +1,44 @@
-use Prim.Native.Nat.{◌-◌, ◌+◌}
-use mathlib.Core.Path.{◌∙◌}
-use native.Mathlib.Nat.{div-le_self}
-use native.Mathlib.Omega.{arith}
-use borrow.Author.Rules.{rules}
-use Rattle.rounds.proofs.RoundLaws.{summed_none, summed_more, round_of, round_is, sought_start, Round, round_meets, round_misses, round_open, round_more}
+use Rattle.std.proofs.Common.{◌+◌, arith}
+use Rattle.rounds.specs.Shares.{shares_demand}
+use Rattle.rounds.proofs.QuotLaws.{ceil_is}
+use Rattle.rounds.proofs.RoundLaws.{sought_start, Round, round_meets, round_misses, round_open, round_more}
 use Rattle.rounds.proofs.StrideLaws.{stride_more}
 use Rattle.rounds.proofs.iterate.Goals as goal
-use Rattle.rounds.proofs.iterate.Goals.{After-loop-j}
+use Rattle.rounds.proofs.iterate.Goals.{After-div_ceil}
 
-pub loop-load-init : goal.loop-load-init
-loop-load-init c =
-    sought_start c.requires.0 c.requires.1
-
-pub loop-i-init : goal.loop-i-init
-loop-i-init c = (search rules, summed_none)
-
-pub uncapped-load-requires : goal.uncapped-load-requires
-uncapped-load-requires c =
-    (c.wholes_of-w.ensures.row.good c.loop-i.i c.loop-i-test.true, omega arith)
-
-pub loop-i-preserved : goal.loop-i-preserved
-loop-i-preserved c =
-    (search rules, summed_more (omega arith) c.loop-i.invariant.1 c.uncapped-load.ensures c.add_load-whole.ensures)
-
-pub loop-j-init : goal.loop-j-init
-loop-j-init c = (search rules, summed_none)
-
-pub uncapped-load-requires-in-loop-j : goal.uncapped-load-requires-in-loop-j
-uncapped-load-requires-in-loop-j c =
-    (c.divided_of-d.ensures.row.good c.loop-j.j c.loop-j-test.true, omega arith)
-
-pub loop-j-preserved : goal.loop-j-preserved
-loop-j-preserved c =
-    (search rules, summed_more (omega arith) c.loop-j.invariant.1 c.uncapped-load-in-loop-j.ensures c.add_load-part.ensures)
+pub loop-wholes-init : goal.loop-wholes-init
+loop-wholes-init c = sought_start c.requires.0 c.requires.1
 
 -- what the round works out is the demand
-round : (c : goal.After-loop-j)
+round : (c : After-div_ceil)
     → let a = c.args in
-    Round a.s a.deadline a.allowance c.loop-load.t c.loop-load.used (round_of a.s c.loop-i.whole c.loop-j.part)
+    let s = a.s.now in
+    Round s a.deadline a.allowance c.loop-wholes.t c.loop-wholes.used (s.base + c.load-whole.result + c.div_ceil.result)
+unfolding shares_demand
 round c =
-    let p = c.loop-j in
+    let t = c.loop-wholes.t in
+    let low = c.loop-wholes.invariant.low in
+    let pos = c.requires.0.head.cpus_least in
     record {
       sound = c.requires.0;
-      sought = c.loop-load.invariant;
-      is = round_is c.wholes_of-w.ensures c.divided_of-d.ensures c.loop-load.invariant.low c.loop-i.invariant.1 (omega arith) p.invariant.1 (omega arith);
+      sought = c.loop-wholes.invariant;
+      is = rw (c.div_ceil.ensures, ceil_is _ _ pos, c.load-whole.ensures.is, c.load-part.ensures.is, c.of-wholes.ensures.are t low, c.of-divided.ensures.are t low);
     }
 
-pub overflow_add-f-in-loop-load-2 : goal.overflow_add-f-in-loop-load-2
-overflow_add-f-in-loop-load-2 c =
-    let part = c.loop-j.part in
-    let cpus = c.args.s.cpus in
-    omega (arith, div-le_self (part + (cpus - 1)) cpus)
+pub returns-then-f-from : goal.returns-then-f-from
+returns-then-f-from c = round_meets (round (goal.at.returns-then-f-from c).After-div_ceil) (omega arith)
 
-pub returns-then-f-length : goal.returns-then-f-length
-returns-then-f-length c = c.found.ensures ∙ round_meets (round (goal.at.returns-then-f-length c).After-loop-j) (omega arith)
-
-pub returns-then-last-f : goal.returns-then-last-f
-returns-then-last-f c = c.found-then-last-f.ensures ∙ round_misses (round (goal.at.returns-then-last-f c).After-loop-j) (omega arith) (omega arith)
+pub returns-then-from-f : goal.returns-then-from-f
+returns-then-from-f c = round_misses (round (goal.at.returns-then-from-f c).After-div_ceil) (omega arith) (omega arith)
 
 pub returns-then-spent-allowance : goal.returns-then-spent-allowance
-returns-then-spent-allowance c = c.found-then-spent-allowance.ensures ∙ round_open (round (goal.at.returns-then-spent-allowance c).After-loop-j) (omega arith) (omega arith) (omega arith)
+returns-then-spent-allowance c = round_open (round (goal.at.returns-then-spent-allowance c).After-div_ceil) (omega arith) (omega arith) (omega arith)
 
-pub loop-load-preserved-then-until_look-gt0 : goal.loop-load-preserved-then-until_look-gt0
-loop-load-preserved-then-until_look-gt0 c = round_more (round (goal.at.loop-load-preserved-then-until_look-gt0 c).After-loop-j) (omega arith) (omega arith) (omega arith)
+pub loop-wholes-preserved-then-until_look-gt0 : goal.loop-wholes-preserved-then-until_look-gt0
+loop-wholes-preserved-then-until_look-gt0 c = round_more (round (goal.at.loop-wholes-preserved-then-until_look-gt0 c).After-div_ceil) (omega arith) (omega arith) (omega arith)
 
-pub even_reach-reach-requires : goal.even_reach-reach-requires
-even_reach-reach-requires c =
-    let o = round (goal.at.even_reach-reach-requires c).After-loop-j in
-    (c.wholes_of-w.ensures.row, c.divided_of-d.ensures.row, search rules, search rules, omega (arith, o.sought.high, o.sound.head.deadline_most))
-
-pub loop-load-preserved : goal.loop-load-preserved
-loop-load-preserved c =
-    let o = round (goal.at.loop-load-preserved c).After-loop-j in
-    stride_more o c.wholes_of-w.ensures c.divided_of-d.ensures c.even_reach-reach.ensures c.stride-k.ensures
+pub loop-wholes-preserved : goal.loop-wholes-preserved
+loop-wholes-preserved c =
+    let o = round (goal.at.loop-wholes-preserved c).After-div_ceil in
+    stride_more o c.of-wholes.ensures c.of-divided.ensures c.even_reach-reach.ensures c.stride-k.ensures
     (omega arith) (omega arith) (omega (arith, o.sought.high)) (omega (arith, o.sought.left))

