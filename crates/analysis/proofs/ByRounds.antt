@@ -6,8 +6,8 @@ use native.Mathlib.Omega.{arith}
 use borrow.Author.Tests.{le-leb}
 use Rattle.basics.proofs.ChoiceLaws.{within_in}
 use Rattle.table.specs.declared.Table.{Table}
-use Rattle.table.specs.declared.Checked.{Checked}
-use Rattle.table.specs.declared.Checked.TheVariants.{Fine, Refused}
+use Rattle.table.specs.Faults.{Checked}
+use Rattle.std.specs.Prelude.{Ok, Err}
 use Rattle.table.specs.Rules.{table_fault}
 use Rattle.theory.specs.declared.Verdict.{Verdict}
 use Rattle.theory.specs.declared.Verdict.TheVariants.{Open}
@@ -21,7 +21,6 @@ use Rattle.theory.proofs.LeastLaws.{Rises}
 use Rattle.theory.proofs.AllowanceLaws.{stays}
 use Rattle.theory.proofs.EndLaws.{counts_exists, Right, counted_right}
 use Rattle.theory.proofs.DemandLaws.{Runs, NoMore, demand_start, demand_rises}
-use Rattle.analysis.specs.declared.Answer.TheVariants.{Known}
 use Rattle.analysis.specs.Answers.{bound_fault, or_answer, bound_of}
 use Rattle.analysis.proofs.RowLaws.{asked}
 
@@ -58,17 +57,17 @@ unfolding counted_by
 under_more t i A B h e q = stays _ _ A B _ h (λ o. q (ap (λ (r : Counted). r.verdict) (sym e) ∙ o)) ∙ e
 
 -- `bound` answers the verdict on each task that there is, and its rounds
-pub bound_known : (t : Table) (i allowance : ℕ) → table_fault t ≡ Fine → i < t.n → 1 ≤ allowance
-    → bound_of t (level i) allowance ≡ Known (counted_in t allowance (level i))
+pub bound_known : (t : Table) (i allowance : ℕ) → table_fault t ≡ Ok tt → i < t.n → 1 ≤ allowance
+    → bound_of t (level i) allowance ≡ Ok (counted_in t allowance (level i))
 unfolding bound_of bound_fault
 bound_known t i allowance e h a = rw (e, within_in 1 t.n (suc i) (omega arith) h, le-leb 1 allowance a)
 
 -- and where it answers them, the table is fine and has that task, and a round is allowed
-pub known : (t : Table) (i allowance : ℕ) {r : Counted} → bound_of t (level i) allowance ≡ Known r
-    → (table_fault t ≡ Fine) × (i < t.n) × (1 ≤ allowance) × (counted_in t allowance (level i) ≡ r)
+pub known : (t : Table) (i allowance : ℕ) {r : Counted} → bound_of t (level i) allowance ≡ Ok r
+    → (table_fault t ≡ Ok tt) × (i < t.n) × (1 ≤ allowance) × (counted_in t allowance (level i) ≡ r)
 unfolding bound_of
 known t i allowance {r} e = by (bound_fault t (level i) allowance) refl
   where
-    by : (c : Checked) → bound_fault t (level i) allowance ≡ c → (table_fault t ≡ Fine) × (i < t.n) × (1 ≤ allowance) × (counted_in t allowance (level i) ≡ r)
-    by Fine f = let a = asked t (level i) allowance f in let x : Known (counted_in t allowance (level i)) ≡ Known r = rw f at e in (a.0, a.2, a.3, cc)
-    by (Refused s) f = let x : or_answer (Refused s) (Known (counted_in t allowance (level i))) ≡ Known r = rw f at e in let z : ◌≡◌ {A = ℕ} 0 1 = cc in absurd (omega arith)
+    by : (c : Checked) → bound_fault t (level i) allowance ≡ c → (table_fault t ≡ Ok tt) × (i < t.n) × (1 ≤ allowance) × (counted_in t allowance (level i) ≡ r)
+    by (Ok _) f = let a = asked t (level i) allowance f in let x : Ok (counted_in t allowance (level i)) ≡ Ok r = rw f at e in (a.0, a.2, a.3, cc)
+    by (Err s) f = let x : or_answer (Err s) (Ok (counted_in t allowance (level i))) ≡ Ok r = rw f at e in let z : ◌≡◌ {A = ℕ} 0 1 = cc in absurd (omega arith)

@@ -8,9 +8,8 @@
 --     row_fine, row_refused     the row then; and where anything is said, it is as it was
 --     row_record                the record of each task that is written
 --     row_past, row_long        past them the row is as it was, and it is as long as it was
---     asks_read, record_read    of the table that is read, where the one that was given is fine: it is in bounds and has that task, and the task's record is the given one's
 -- Assumes nothing.
-use mathlib.Core.Path.{◌≡◌, refl, ◌∙◌, ap}
+use mathlib.Core.Path.{◌≡◌, refl, ◌∙◌}
 use Prim.Native.Nat.{ℕ, ◌≤◌, ◌<◌, zero-le}
 use native.Mathlib.Nat.{not-suc-le-zero}
 use native.Mathlib.Omega.{arith}
@@ -25,23 +24,20 @@ use Rattle.table.specs.declared.Level.{Level}
 use Rattle.table.specs.declared.Table.{Table}
 use Rattle.table.specs.declared.Refusal.{Refusal}
 use Rattle.table.specs.declared.Fault.TheVariants.{UnknownTask, TooShort, NoRounds}
-use Rattle.table.specs.declared.Checked.{Checked}
-use Rattle.table.specs.declared.Checked.TheVariants.{Fine, Refused}
+use Rattle.table.specs.Faults.{Checked}
+use Rattle.std.specs.Prelude.{Ok, Err}
 use Rattle.table.specs.Limits.{max_tasks}
 use Rattle.table.specs.Rules.{table_fault, asked_fault}
 use Rattle.table.proofs.FirstLaws.{then_fine}
 use Rattle.table.proofs.RuleLaws.{unless_fine}
 use Rattle.table.proofs.Acceptance.{fine_accepted}
-use Rattle.theory.specs.Groups.{InBounds}
-use Rattle.theory.specs.Tables.{view_of}
-use Rattle.merging.proofs.ReadLaws.{read_merged, read_asks}
 use Rattle.analysis.specs.declared.Record.{Record}
-use Rattle.analysis.specs.Answers.{allowance_fault, bound_fault, analysis_fault, or_none, record_count, record_by, record_of, table_read, analysed}
+use Rattle.analysis.specs.Answers.{allowance_fault, bound_fault, analysis_fault, or_none, record_count, record_of, analysed}
 
 -- ---- one task
 
 -- nothing is said against the table, the task and the allowance
-pub asked : (t : Table) (i : Level) (allowance : ℕ) → bound_fault t i allowance ≡ Fine → (table_fault t ≡ Fine) × (1 ≤ i.0) × (i.0 ≤ t.n) × (1 ≤ allowance)
+pub asked : (t : Table) (i : Level) (allowance : ℕ) → bound_fault t i allowance ≡ Ok tt → (table_fault t ≡ Ok tt) × (1 ≤ i.0) × (i.0 ≤ t.n) × (1 ≤ allowance)
 unfolding bound_fault
 asked t i allowance e =
     let p = then_fine (table_fault t) _ e in
@@ -53,28 +49,28 @@ asked t i allowance e =
 
 module _ (t : Table) (allowance room : ℕ) where
   -- nothing is said against the table and the row
-  pub fits : analysis_fault t allowance room ≡ Fine → (table_fault t ≡ Fine) × (t.n ≤ room)
+  pub fits : analysis_fault t allowance room ≡ Ok tt → (table_fault t ≡ Ok tt) × (t.n ≤ room)
   unfolding analysis_fault
   fits e =
       let p = then_fine (table_fault t) _ e in
       let q = then_fine (allowance_fault allowance) _ p.1 in
       (p.0, leb-true t.n room (unless_fine _ TooShort 0 q.1))
 
-  pub allowed : analysis_fault t allowance room ≡ Fine → 1 ≤ allowance
+  pub allowed : analysis_fault t allowance room ≡ Ok tt → 1 ≤ allowance
   unfolding analysis_fault
   allowed e = leb-true 1 allowance (unless_fine _ NoRounds 0 (then_fine (allowance_fault allowance) _ (then_fine (table_fault t) _ e).1).0)
 
   room_by : (a : Checked) → analysis_fault t allowance room ≡ a → or_none a t.n ≤ room
-  room_by Fine e = (fits e).1
-  room_by (Refused r) e = zero-le
+  room_by (Ok _) e = (fits e).1
+  room_by (Err r) e = zero-le
 
   most_by : (a : Checked) → analysis_fault t allowance room ≡ a → or_none a t.n ≤ max_tasks
-  most_by Fine e = (fine_accepted t (fits e).0).tasks_most
-  most_by (Refused r) e = zero-le
+  most_by (Ok _) e = (fine_accepted t (fits e).0).tasks_most
+  most_by (Err r) e = zero-le
 
-  asks_by : (i : ℕ) (a : Checked) → analysis_fault t allowance room ≡ a → i < or_none a t.n → (table_fault t ≡ Fine) × (i < t.n)
-  asks_by i Fine e l = ((fits e).0, l)
-  asks_by i (Refused r) e l = absurd (not-suc-le-zero l)
+  asks_by : (i : ℕ) (a : Checked) → analysis_fault t allowance room ≡ a → i < or_none a t.n → (table_fault t ≡ Ok tt) × (i < t.n)
+  asks_by i (Ok _) e l = ((fits e).0, l)
+  asks_by i (Err r) e l = absurd (not-suc-le-zero l)
 
   pub count_room : record_count t allowance room ≤ room
   unfolding record_count
@@ -84,22 +80,22 @@ module _ (t : Table) (allowance room : ℕ) where
   unfolding record_count
   count_most = most_by (analysis_fault t allowance room) refl
 
-  pub count_asks : (i : ℕ) → i < record_count t allowance room → (table_fault t ≡ Fine) × (i < t.n)
+  pub count_asks : (i : ℕ) → i < record_count t allowance room → (table_fault t ≡ Ok tt) × (i < t.n)
   unfolding record_count
   count_asks i l = asks_by i (analysis_fault t allowance room) refl l
 
-  pub count_fine : analysis_fault t allowance room ≡ Fine → record_count t allowance room ≡ t.n
+  pub count_fine : analysis_fault t allowance room ≡ Ok tt → record_count t allowance room ≡ t.n
   unfolding record_count
   count_fine e = rw e
 
 -- ---- the row that the analysis leaves
 
 module _ (t : Table) (allowance : ℕ) (ys : List Record) where
-  pub row_fine : analysis_fault t allowance (length ys) ≡ Fine → row_to t.n (record_of t allowance) ++ drop t.n ys ≡ analysed t allowance ys
+  pub row_fine : analysis_fault t allowance (length ys) ≡ Ok tt → row_to t.n (record_of t allowance) ++ drop t.n ys ≡ analysed t allowance ys
   unfolding analysed record_count
   row_fine e = rw e
 
-  pub row_refused : {r : Refusal} → analysis_fault t allowance (length ys) ≡ Refused r → ys ≡ analysed t allowance ys
+  pub row_refused : {r : Refusal} → analysis_fault t allowance (length ys) ≡ Err r → ys ≡ analysed t allowance ys
   unfolding analysed record_count join_to
   row_refused e = rw e
 
@@ -122,12 +118,3 @@ module _ (t : Table) (allowance : ℕ) (ys : List Record) where
   pub row_long : length (analysed t allowance ys) ≡ length ys
   unfolding analysed
   row_long = over_length (record_of t allowance) _ ys (count_room t allowance (length ys))
-
--- ---- the table that is read
-
-module _ (t : Table) {m : Table} (i : ℕ) (read : m ≡ table_read t) where
-  pub asks_read : (table_fault t ≡ Fine) × (i < t.n) → InBounds m × (i < m.n)
-  asks_read a = rw read (read_asks t refl a.0 a.1)
-
-  pub record_read : (allowance : ℕ) → table_fault t ≡ Fine → record_by (view_of m) allowance i ≡ record_of t allowance i
-  record_read allowance e = ap (λ (x : Table). record_by (view_of x) allowance i) (read ∙ read_merged t refl e)

@@ -1,20 +1,17 @@
 -- What the analysis answers: document 01, "Refusals by number" and "The analysis", and request 6/12 of document 02.
-use Rattle.std.specs.Prelude.{ℕ, ◌≡◌, List, ◌++◌, length, drop, leb}
+use Rattle.std.specs.Prelude.{ℕ, ◌≡◌, List, ◌++◌, length, drop, leb, Result, Ok, Err}
 use Rattle.basics.specs.Over.{row_to}
 use Rattle.table.specs.declared.Level.{Level}
+use Rattle.table.specs.declared.Refusal.{Refusal}
 use Rattle.table.specs.declared.Table.{Table}
 use Rattle.table.specs.declared.Fault.TheVariants.{TooShort, NoRounds}
-use Rattle.table.specs.declared.Checked.{Checked}
-use Rattle.table.specs.declared.Checked.TheVariants.{Fine, Refused}
+use Rattle.table.specs.Faults.{Checked}
 use Rattle.table.specs.Faults.{◌then◌, unless}
 use Rattle.table.specs.Rules.{table_fault, asked_fault}
-use Rattle.table.specs.Answers.{or_table}
 use Rattle.theory.specs.declared.Verdict.TheVariants.{Meets}
+use Rattle.theory.specs.declared.Counted.{Counted}
 use Rattle.theory.specs.View.{View, level}
 use Rattle.theory.specs.Tables.{merged_view, counted_by, counted_in}
-use Rattle.theory.specs.Merge.{merged}
-use Rattle.analysis.specs.declared.Answer.{Answer}
-use Rattle.analysis.specs.declared.Answer.TheVariants.{Known, Unknown}
 use Rattle.analysis.specs.declared.Record.{Record}
 
 -- ---- refusals that come after the table's own
@@ -36,19 +33,23 @@ analysis_fault t allowance room = table_fault t then allowance_fault allowance t
 
 -- ---- one task
 
+-- the verdict and its rounds, or the refusal
+abbrev pub Answer : Type 0
+Answer = Result Counted Refusal
+
 abbrev pub or_answer : Checked → Answer → Answer
-or_answer Fine b = b
-or_answer (Refused r) b = Unknown r
+or_answer (Ok _) b = b
+or_answer (Err r) b = Err r
 
 unfoldable pub bound_of : Table → Level → ℕ → Answer
-bound_of t i allowance = or_answer (bound_fault t i allowance) (Known (counted_in t allowance i))
+bound_of t i allowance = or_answer (bound_fault t i allowance) (Ok (counted_in t allowance i))
 
 -- ---- the row
 
 -- how many records are written: "a refused .. analysis writes nothing"
 abbrev pub or_none : Checked → ℕ → ℕ
-or_none Fine n = n
-or_none (Refused r) n = 0
+or_none (Ok _) n = n
+or_none (Err r) n = 0
 
 unfoldable pub record_count : Table → ℕ → ℕ → ℕ
 record_count t allowance room = or_none (analysis_fault t allowance room) t.n
@@ -62,10 +63,6 @@ record_by v allowance i =
 -- of a table, by its merged pairs
 abbrev pub record_of : Table → ℕ → ℕ → Record
 record_of t allowance i = record_by (merged_view t) allowance i
-
--- the table that is read: of one that is refused, none
-abbrev pub table_read : Table → Table
-table_read t = (or_table (table_fault t) (merged t)).table
 
 -- a record of no task: what a row's reader has past its end, and what a row may hold before
 abbrev pub no_record : Record

@@ -4,7 +4,7 @@
 --   OthersLaws    those for another resource than one; SummingLaws: the pass that sums the first of them
 --   LowerLaws     the requests of the tasks below one
 --   WaitLaws      what the pass over the tasks has: those kept, and the waits
---   AnswerLaws    of a table without alpha there are no waits
+--   AnswerLaws    the waits by the merged pairs, of a table without alpha, and of a task that can be asked about
 --   Determined    two answers are equal
 pub mod CasesHold
 pub mod KeptLaws

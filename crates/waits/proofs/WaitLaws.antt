@@ -13,7 +13,7 @@ use Rattle.basics.specs.Over.{row_to}
 use Rattle.basics.specs.Largest.{falling, sum_of, sum_largest}
 use Rattle.basics.proofs.SumLaws.{sum_eq, sum_part}
 use Rattle.basics.proofs.JoinLaws.{join_past, join_rest}
-use Rattle.basics.proofs.RowLaws.{back_none, back_more, back_all}
+use Rattle.basics.proofs.RowLaws.{back_none, back_more}
 use Rattle.basics.proofs.FallingLaws.{falling_length}
 use Rattle.table.specs.declared.Table.{Table}
 use Rattle.table.specs.Limits.{max_tasks, max_resources, max_alpha}
@@ -23,7 +23,7 @@ use Rattle.theory.specs.Groups.{InBounds}
 use Rattle.theory.specs.Tables.{view_of}
 use Rattle.waits.specs.Wait.{others_below, wait_of}
 use Rattle.waits.specs.Answers.{no_waits}
-use Rattle.waits.specs.Kept.{max_kept, keys_of, keys_from, InLimits, KeptWith, others_kept, sum_others, wait_with, slot_wait_by, waits_by}
+use Rattle.waits.specs.Kept.{max_kept, keys_of, keys_from, InLimits, KeptRow, KeptWith, others_kept, sum_others, wait_with, slot_wait_by}
 use Rattle.waits.proofs.KeptLaws.{each_falling, kept_both}
 use Rattle.waits.proofs.OthersLaws.{others_falling, others_take}
 use Rattle.waits.proofs.LowerLaws.{others_below_lem, few_below}
@@ -33,13 +33,12 @@ use Rattle.waits.proofs.LowerLaws.{others_below_lem, few_below}
 abbrev pub KeptFrom : Table → ℕ → ℕ → List ℕ → Type 0
 KeptFrom t i n kept = KeptWith (keys_from t i) [] 0 n kept
 
-pub from_none : (t : Table) (kept : List ℕ) → length kept ≡ max_kept → KeptFrom t t.n 0 kept
-from_none t kept l =
-    rw (join_past t.n t.n (λ j. keys_of (task_at t j)) (le_refl t.n)) (record { long = l; few = omega arith; first = refl })
+pub from_none : (t : Table) {n : ℕ} {kept : List ℕ} → KeptRow kept n → n ≡ 0 → KeptFrom t t.n n kept
+from_none t {n} {kept} k e = rw (join_past t.n t.n (λ j. keys_of (task_at t j)) (le_refl t.n), e) (record { long = k.long; few = omega arith; first = refl })
 
-pub from_more : (t : Table) (i n r : ℕ) (kept exit : List ℕ) → 0 < i → i ≤ t.n → KeptFrom t i n kept → KeptWith (keys_of (task_at t (i - 1))) kept n r exit
+pub from_more : (t : Table) (i : ℕ) {n r : ℕ} {kept exit : List ℕ} → 0 < i → i ≤ t.n → KeptFrom t i n kept → KeptWith (keys_of (task_at t (i - 1))) kept n r exit
     → KeptFrom t (i - 1) r exit
-from_more t i n r kept exit h l was more =
+from_more t i h l was more =
     let e : suc (i - 1) ≡ i = omega arith in
     let s : keys_from t (i - 1) ≡ keys_of (task_at t (i - 1)) ++ keys_from t i = join_rest t.n (i - 1) (λ j. keys_of (task_at t j)) (omega arith) ∙ rw e in
     rw s (kept_both was more)
@@ -51,9 +50,6 @@ waits_from t i = row_to max_tasks (λ l. pick (leb i l) (slot_wait_by t l) 0)
 
 pub waits_none : (t : Table) → no_waits ≡ waits_from t t.n
 waits_none t = back_none (slot_wait_by t) 0 max_tasks t.n (λ l h. rw (le-ltb l t.n h))
-
-pub waits_all : (t : Table) (i : ℕ) → i ≡ 0 → waits_from t i ≡ waits_by t
-waits_all t i e = ap (waits_from t) e ∙ back_all (slot_wait_by t) 0 max_tasks
 
 module _ (t : Table) (a : InBounds t) where
   pub in_limits : (i : ℕ) → i < t.n → InLimits (task_at t i)
@@ -89,10 +85,9 @@ module _ (t : Table) (a : InBounds t) where
       sum_eq max_resources _ _
       (λ k q. ap (λ (s : ℕ). only (uses v (level i) (resource k)) (v.N (level i) (resource k) * s)) (sum_is i A n k kept h q was))
 
-  pub waits_more : (i n : ℕ) (kept : List ℕ) → 0 < i → i ≤ t.n → KeptFrom t i n kept
-      → (w : ℕ) → w ≡ wait_with (take n kept) (alpha_at t (i - 1)) (task_at t (i - 1))
-      → (waits : List ℕ) → waits ≡ waits_from t i → set waits (i - 1) w ≡ waits_from t (i - 1)
-  waits_more i n kept h l was w e waits p =
+  pub waits_more : (i : ℕ) {n w : ℕ} {kept waits : List ℕ} → 0 < i → i ≤ t.n → KeptFrom t i n kept
+      → w ≡ wait_with (take n kept) (alpha_at t (i - 1)) (task_at t (i - 1)) → waits ≡ waits_from t i → set waits (i - 1) w ≡ waits_from t (i - 1)
+  waits_more i {n} {w} {kept} {waits} h l was e p =
       let s : i ≡ suc (i - 1) = omega arith in
       let g : w ≡ slot_wait_by t (i - 1) =
       e

@@ -1,8 +1,9 @@
 -- What is kept of the tasks gone through, from the lowest up: their requests as numbers, in falling order, as many as may be needed.
 use Rattle.std.specs.Prelude.{ℕ, ◌+◌, ◌-◌, ◌*◌, ◌/◌, ◌%◌, ◌^◌, ◌≤◌, ◌<◌, ◌≡◌, List, [], ◌∷◌, eqb, leb, ltb, length, take}
+use Rattle.std.specs.Coded.{Coded-set, coded_ℕ, ×_prop, Unit-prop, le_prop}
 use Rattle.basics.specs.Choice.{pick, only}
 use Rattle.basics.specs.Over.{sum_to, join_to, row_to}
-use Rattle.basics.specs.Largest.{insert_into, sum_of, Descends}
+use Rattle.basics.specs.Largest.{insert_into, sum_of, EachAtMost, Descends}
 use Rattle.table.specs.declared.Task.{Task}
 use Rattle.table.specs.declared.Table.{Table}
 use Rattle.table.specs.Limits.{max_tasks, max_resources, max_time, max_alpha}
@@ -52,6 +53,23 @@ pub record KeptRow (kept : List ℕ) (n : ℕ) : Type 0 where
   pub long : length kept ≡ max_kept
   pub few : n ≤ max_kept
   pub falls : Descends (take n kept)
+
+-- there is one proof of it at most, so that a struct may keep it
+at_most_prop : (b : ℕ) (S : List ℕ) → IsProp (EachAtMost b S)
+at_most_prop b [] = Unit-prop
+at_most_prop b (x ∷ S) = ×_prop le_prop (at_most_prop b S)
+
+descends_prop : (S : List ℕ) → IsProp (Descends S)
+descends_prop [] = Unit-prop
+descends_prop (x ∷ S) = ×_prop (at_most_prop x S) (descends_prop S)
+
+pub row_prop : (kept : List ℕ) (n : ℕ) → IsProp (KeptRow kept n)
+row_prop kept n a b i =
+    record {
+      long = Coded-set coded_ℕ (length kept) max_kept a.long b.long i;
+      few = le_prop a.few b.few i;
+      falls = descends_prop (take n kept) a.falls b.falls i;
+    }
 
 -- once xs are put in their places too, the first r of the row are kept, and the smallest of too many have gone
 pub record KeptWith (xs entry : List ℕ) (n r : ℕ) (exit : List ℕ) : Type 0 where

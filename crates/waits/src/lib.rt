@@ -4,73 +4,32 @@
 ghost use Rattle.std.specs.Prelude.{◌≡◌};
 ghost use Rattle.waits.specs.Answers.{wait_answer, all_waits};
 
-use table::{Checked, Level, Refusal, Table};
+use table::{Level, Refusal, Table};
 
 mod longest;
 
-// What is answered of a task: its wait in microseconds; that the table has no alpha; or why there is none.
-#[derive(Clone, Copy)]
-pub enum Waiting {
-    For(u64),
-    NoAlpha,
-    Unknown(Refusal),
-}
-
-// What is answered of all tasks: the refusal, if there is one; whether the table has alphas; and then the wait of each task, in microseconds.
-#[derive(Clone, Copy)]
-pub struct Waits {
-    pub answer: Checked,
-    pub given: bool,
-    pub of: [u64; Table::MAX_TASKS],
-}
-
-// The wait of one task.
-pub fn wait(t: Table, task: Level) -> Waiting
+// The wait of one task, in microseconds; none where the table has no alpha.
+#[tactic(auto, using(crate::proofs::AnswerLaws::asked_fine, crate::proofs::AnswerLaws::wait_at), unfolding(crate::specs::Answers::wait_answer, crate::specs::Answers::wait_fault, crate::specs::Answers::all_waits))]
+pub fn wait(t: Table, task: Level) -> Result<Option<u64>, Refusal>
     ensures { result ≡ wait_answer t task }
 {
-    let read = merging::merge(t);
-    let own = read.answer;
-    let asked = rules::asked(t.n, task);
-    if let Checked::Refused(r) = rules::first_of(own, asked) {
-        return Waiting::Unknown(r);
+    let all = wait_all(t)?;
+    rules::asked(t.n, task)?;
+    // no `map`: its closure would have to say again what it asks of the index
+    match all {
+        Some(of) => Ok(Some(of[task.0 as usize - 1])),
+        None => Ok(None),
     }
-    let first = t.tasks[0];
-    if first.alpha == 0 {
-        return Waiting::NoAlpha;
-    }
-    let m = read.table;
-    let all = longest::waits_of(m);
-    let i = task.0 as usize - 1;
-    Waiting::For(all[i])
 }
 
-// The waits of all tasks, from one pass over them.
-pub fn wait_all(t: Table) -> Waits
+// The waits of all tasks, from one pass over them, and 0 past them; none where the table has no alpha.
+#[tactic(auto, using(crate::proofs::AnswerLaws::waits_merged), unfolding(crate::specs::Answers::all_waits))]
+pub fn wait_all(t: Table) -> Result<Option<[u64; Table::MAX_TASKS]>, Refusal>
     ensures { result ≡ all_waits t }
 {
-    let none = [0u64; Table::MAX_TASKS];
-    let read = merging::merge(t);
-    let answer = read.answer;
-    let Checked::Fine = answer else {
-        return Waits {
-            answer,
-            given: false,
-            of: none,
-        };
-    };
-    let first = t.tasks[0];
-    if first.alpha == 0 {
-        return Waits {
-            answer,
-            given: false,
-            of: none,
-        };
+    let m = merging::merge(t)?;
+    if t.tasks[0].alpha == 0 {
+        return Ok(None);
     }
-    let m = read.table;
-    let of = longest::waits_of(m);
-    Waits {
-        answer,
-        given: true,
-        of,
-    }
+    Ok(Some(longest::waits_of(m)))
 }

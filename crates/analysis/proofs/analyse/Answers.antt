@@ -1,57 +1,65 @@
-use Prim.Native.Nat.{ℕ, ◌<◌}
-use mathlib.Core.Path.{◌≡◌, ap, ◌∙◌}
-use mathlib.Core.List.{◌++◌}
-use native.Mathlib.Omega.{arith}
-use lib.ListN.{length, drop, set}
+use Rattle.std.proofs.Common.{◌≡◌, ℕ, ◌++◌, length, drop, set, sym, ap, ◌∙◌, Ok, Err, arith, rules}
 use Rattle.basics.specs.Over.{row_to}
-use Rattle.basics.proofs.RowLaws.{over_none, over_more, over_length}
-use Rattle.analysis.specs.Answers.{record_of}
-use Rattle.analysis.proofs.RowLaws.{count_room, count_most, count_asks, row_last, asks_read, record_read}
+use Rattle.basics.proofs.RowLaws.{over_none, over_more}
+use Rattle.table.specs.declared.Table.{Table}
+use Rattle.table.specs.Rules.{table_fault}
+use Rattle.theory.specs.Tables.{view_of}
+use Rattle.merging.proofs.ReadLaws.{read_refused, read_fine, read_merged, read_asks}
+use Rattle.table.specs.Faults.{◌then◌}
+use Rattle.analysis.specs.Answers.{allowance_fault, row_fault, analysis_fault, record_by, record_of}
+use Rattle.analysis.proofs.RowLaws.{fits, row_fine, row_refused}
 use Rattle.analysis.proofs.analyse.Goals as goal
-use Rattle.analysis.proofs.analyse.Goals.{In-loop-i}
+use Rattle.analysis.proofs.analyse.Goals.{In_ok-m, After-first_of, In_ok-first_of}
 
--- a turn's task is one of those that are counted, and the row has room for it
-turn : (c : goal.In-loop-i) → (c.loop-i.i < length c.args.row.now) × (c.loop-i.i < 32) × (length c.loop-i.row ≡ length c.args.row.now)
-turn c =
+read : (c : goal.In_ok-m) → table_fault c.args.t ≡ Ok tt
+read c = read_fine c.args.t (sym c.merge.ensures ∙ c.in_ok-m.was)
+
+pub returns-in_err-m : goal.returns-in_err-m
+unfolding analysis_fault
+returns-in_err-m c =
     let a = c.args in
-    let i = c.loop-i.i in
-    let n = c.todo-n.ensures in
-    let room = count_room a.t a.allowance (length a.row.now) in
-    let most = count_most a.t a.allowance (length a.row.now) in (
-      omega (arith, n, room, c.loop-i-test.true),
-      omega (arith, n, most, c.loop-i-test.true),
-      ap length c.loop-i.invariant.1 ∙ over_length (record_of a.t a.allowance) i a.row.now (omega (arith, n, room, c.loop-i-test.true)),
-    )
+    let e : analysis_fault a.t a.allowance (length a.row.now) ≡ Err c.in_err-m.field-0.0 = rw (read_refused a.t (sym c.merge.ensures ∙ c.in_err-m.was)) in
+    (rw e (search rules), row_refused _ _ _ e)
+
+-- the two checks after the table's own, in their order
+checks : (c : goal.After-first_of) → let a = c.args in c.first_of.result ≡ (allowance_fault a.allowance then row_fault a.t.n (length a.row.now))
+checks c = rw (← c.check_allowance.ensures, ← c.check_row.ensures) c.first_of.ensures
+
+pub returns-in_err-first_of : goal.returns-in_err-first_of
+unfolding analysis_fault
+returns-in_err-first_of c =
+    let a = c.args in
+    let here = goal.at.returns-in_err-first_of c in
+    let e : analysis_fault a.t a.allowance (length a.row.now) ≡ Err c.in_err-first_of.field-0.0 = rw (read here.In_ok-m, sym (checks here.After-first_of) ∙ c.in_err-first_of.was) in
+    (rw e (search rules), row_refused _ _ _ e)
+
+fine : (c : goal.In_ok-first_of) → let a = c.args in analysis_fault a.t a.allowance (length a.row.now) ≡ Ok tt
+unfolding analysis_fault
+fine c =
+    let read : table_fault c.args.t ≡ Ok tt = read_fine c.args.t (sym c.merge.ensures ∙ c.in_ok-m.was) in
+    let checks : c.first_of.result ≡ (allowance_fault c.args.allowance then row_fault c.args.t.n (length c.args.row.now)) = rw (← c.check_allowance.ensures, ← c.check_row.ensures) c.first_of.ensures in
+    rw (read, sym checks ∙ c.in_ok-first_of.was)
 
 pub loop-i-init : goal.loop-i-init
-loop-i-init c = (omega arith, over_none _ _)
+loop-i-init c = over_none _ _
 
 pub record_at-requires : goal.record_at-requires
-record_at-requires c =
-    let a = c.args in
-    asks_read a.t c.loop-i.i c.table_read-m.ensures (count_asks a.t a.allowance (length a.row.now) c.loop-i.i (omega (arith, c.todo-n.ensures, c.loop-i-test.true)))
-
-pub offset_bounds-row-i : goal.offset_bounds-row-i
-offset_bounds-row-i c = let w = turn (goal.at.offset_bounds-row-i c).In-loop-i in omega (arith, w.1)
+record_at-requires c = read_asks c.args.t (sym c.merge.ensures ∙ c.in_ok-m.was) c.loop-i-test.true
 
 pub bounds-row-i : goal.bounds-row-i
-bounds-row-i c = let w = turn (goal.at.bounds-row-i c).In-loop-i in omega (arith, w.0, w.2)
+bounds-row-i c = let f = fits _ _ _ (fine (goal.at.bounds-row-i c).In_ok-first_of) in omega (arith, f.1)
 
 pub loop-i-preserved : goal.loop-i-preserved
 loop-i-preserved c =
     let a = c.args in
-    let k = c.loop-i.i in
-    let w = turn (goal.at.loop-i-preserved c).In-loop-i in
-    let asks = count_asks a.t a.allowance (length a.row.now) k (omega (arith, c.todo-n.ensures, c.loop-i-test.true)) in
-    let r = c.record_at.ensures ∙ record_read a.t k c.table_read-m.ensures a.allowance asks.0 in
-    (omega arith, (λ j. set (c.loop-i.invariant.1 j) k (r j)) ∙ over_more (record_of a.t a.allowance) k a.row.now w.0)
+    let i = c.loop-i.i in
+    let f = fits _ _ _ (fine (goal.at.loop-i-preserved c).In_ok-first_of) in
+    let r = c.record_at.ensures ∙ ap (λ (m : Table). record_by (view_of m) a.allowance i) (read_merged a.t (sym c.merge.ensures ∙ c.in_ok-m.was)) in
+    (λ j. set (c.loop-i.invariant j) i (r j)) ∙ over_more (record_of a.t a.allowance) i a.row.now (omega (arith, f.1))
 
 pub returns : goal.returns
 returns c =
     let a = c.args in
-    let e : c.loop-i.i ≡ c.todo-n.result = omega (arith, c.loop-i.invariant.0, c.loop-i-test.false) in (
-      c.judge.ensures,
-      c.loop-i.invariant.1
-          ∙ ap (λ (n : ℕ). row_to n (record_of a.t a.allowance) ++ drop n a.row.now) (e ∙ c.todo-n.ensures)
-          ∙ row_last a.t a.allowance a.row.now,
-    )
+    let fine = fine (goal.at.returns c).In_ok-first_of in
+    let all : c.loop-i.i ≡ a.t.n = omega arith in
+    (sym fine, c.loop-i.invariant ∙ ap (λ (n : ℕ). row_to n (record_of a.t a.allowance) ++ drop n a.row.now) all ∙ row_fine _ _ _ fine)

@@ -5,7 +5,7 @@ use native.Mathlib.Omega.{arith}
 use Rattle.theory.specs.View.{level}
 use Rattle.theory.specs.Rounds.{counted_from}
 use Rattle.rounds.specs.declared.Shares.{Shares}
-use Rattle.rounds.specs.declared.Outcome.TheVariants.{Of}
+use Rattle.std.specs.Prelude.{Some}
 use Rattle.rounds.specs.Outcome.{outcome_of}
 use Rattle.rounds.proofs.SoundLaws.{sound_test}
 use Rattle.theory.specs.Tables.{view_of, counted_by}
@@ -23,7 +23,7 @@ bounds-m-i c = omega (arith, c.requires.0.tasks_most)
 -- the outcome over the shares is the table's
 outcome : (c : goal.After-outcome_of)
     → let a = c.args in
-    c.outcome_of.result ≡ Of (counted_by (view_of a.m) a.allowance (level a.i))
+    c.outcome_of.result ≡ Some (counted_by (view_of a.m) a.allowance (level a.i))
 unfolding counted_by outcome_of
 outcome c =
     let t = c.args.m in
@@ -33,11 +33,11 @@ outcome c =
     let r = reduced t i c.requires.0 c.requires.1 in
     c.outcome_of.ensures
     ∙ ap (λ (s : Shares). outcome_of s D A) c.shares_of-s.ensures
-    ∙ rw (sound_test _ _ r.sound) (ap₂ (λ (f : ℕ → ℕ) (C : ℕ). Of (counted_from f D A C)) (λ j u. shares_demand_lem (view_of t) i _ r.are u j) r.are.start)
+    ∙ rw (sound_test _ _ r.sound) (ap₂ (λ (f : ℕ → ℕ) (C : ℕ). Some (counted_from f D A C)) (λ j u. shares_demand_lem (view_of t) i _ r.are u j) r.are.start)
 
--- they are sound, so another outcome does not come up
-pub returns-in_default : goal.returns-in_default
-returns-in_default c = let z : ◌≡◌ {A = ℕ} 0 1 = cc (outcome (goal.at.returns-in_default c).After-outcome_of) in absurd (omega arith)
+-- they are sound, so there is one
+pub unwrap-requires : goal.unwrap-requires
+unwrap-requires c = rw (outcome c)
 
 pub returns : goal.returns
 returns c = cc (outcome (goal.at.returns c).After-outcome_of)

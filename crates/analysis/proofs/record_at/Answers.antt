@@ -8,5 +8,5 @@ pub returns : goal.returns
 unfolding record_by
 returns c = rw (add-one, c.counted_at-x.ensures)
 
-pub overflow_cast-number : goal.overflow_cast-number
-overflow_cast-number c = omega (arith, c.requires.0.tasks_most)
+pub overflow_cast-result : goal.overflow_cast-result
+overflow_cast-result c = omega (arith, c.requires.0.tasks_most)

@@ -16,7 +16,7 @@ use Rattle.merging.proofs.merge_task.Goals as goal
 use Rattle.merging.proofs.merge_task.Goals.{After-slot_of-k}
 
 pub loop-j-init : goal.loop-j-init
-loop-j-init c = (search rules, parts_none c.args.groups c.args.x)
+loop-j-init c = search (rules, parts_none c.args.groups c.args.x)
 
 -- what stands at the slot of the next resource
 held : (c : goal.After-slot_of-k)
@@ -24,7 +24,7 @@ held : (c : goal.After-slot_of-k)
 held c =
     let g = c.args.groups in
     let x = c.args.x in
-    (λ i. get_or (c.loop-j.invariant.1 i) (c.slot_of-k.ensures.0 i) unused_pair) ∙ row_at max_resources (slot_of g c.loop-j.j) (part_to g x c.loop-j.j) unused_pair (slot_below g c.loop-j.j (search rules))
+    (λ i. get_or (c.loop-j.invariant i) (c.slot_of-k.ensures.0 i) unused_pair) ∙ row_at max_resources (slot_of g c.loop-j.j) (part_to g x c.loop-j.j) unused_pair (slot_below g c.loop-j.j (search rules))
 
 pub joined-requires : goal.joined-requires
 joined-requires c =
@@ -36,7 +36,7 @@ loop-j-preserved c =
     let x = c.args.x in
     let j = c.loop-j.j in
     let e : c.joined.result ≡ added g x j = c.joined.ensures ∙ ap (λ (p : Pair). a_pair (p.requests + (pair_of x j).requests) (max p.longest (pair_of x j).longest) (p.total + (pair_of x j).total)) (held (goal.at.loop-j-preserved c).After-slot_of-k) in
-    (search rules, (λ i. set (c.loop-j.invariant.1 i) (c.slot_of-k.ensures.0 i) (e i)) ∙ parts_more g x j (search rules))
+    (λ i. set (c.loop-j.invariant i) (c.slot_of-k.ensures.0 i) (e i)) ∙ parts_more g x j (search rules)
 
 pub returns : goal.returns
 unfolding merged_task merged_pair
@@ -44,5 +44,5 @@ returns c =
     let x = c.args.x in
     let n : c.loop-j.j ≡ max_resources = omega arith in
     let e : c.loop-j.pairs ≡ row_to max_resources (part_to c.args.groups x max_resources) =
-    c.loop-j.invariant.1 ∙ ap (λ (j : ℕ). row_to max_resources (part_to c.args.groups x j)) n in
+    c.loop-j.invariant ∙ ap (λ (j : ℕ). row_to max_resources (part_to c.args.groups x j)) n in
     λ i. record { period = x.period; run = x.run; deadline = x.deadline; alpha = x.alpha; pairs = e i }

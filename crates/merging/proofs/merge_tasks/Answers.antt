@@ -19,8 +19,7 @@ accepted l = fine_accepted _ l.requires
 pub loop-i-init : goal.loop-i-init
 unfolding empty_table
 loop-i-init c =
-    let e = c.empty-none.ensures in
-    (search rules, ap (λ (t : Table). t.tasks) e ∙ over_none (task_of c.args.t) (replicate max_tasks empty_task))
+    ap (λ (t : Table). t.tasks) c.empty.ensures ∙ over_none (task_of c.args.t) (replicate max_tasks empty_task)
 
 pub merge_task-requires : goal.merge_task-requires
 merge_task-requires c = (accepted (goal.at.merge_task-requires c).At-loop-i).task c.loop-i.i (search rules)
@@ -28,18 +27,16 @@ merge_task-requires c = (accepted (goal.at.merge_task-requires c).At-loop-i).tas
 pub loop-i-preserved : goal.loop-i-preserved
 loop-i-preserved c =
     let t = c.args.t in
-    let i = c.loop-i.i in (
-      search rules,
-      (λ j. set (c.loop-i.invariant.1 j) i (c.merge_task.ensures j))
-          ∙ over_more (task_of t) i (replicate max_tasks empty_task) (omega (arith, length-replicate max_tasks empty_task, (accepted (goal.at.loop-i-preserved c).At-loop-i).tasks_most)),
-    )
+    let i = c.loop-i.i in
+    (λ j. set (c.loop-i.invariant j) i (c.merge_task.ensures j))
+    ∙ over_more (task_of t) i (replicate max_tasks empty_task) (omega (arith, length-replicate max_tasks empty_task, (accepted (goal.at.loop-i-preserved c).At-loop-i).tasks_most))
 
 pub returns : goal.returns
 unfolding grouped_tasks
 returns c =
     let t = c.args.t in
     let all : c.loop-i.i ≡ t.n = omega arith in
-    c.loop-i.invariant.1 ∙ ap (passed t) all ∙ over_same (task_of t) empty_task t.n max_tasks (accepted (goal.at.returns c).At-loop-i).tasks_most
+    c.loop-i.invariant ∙ ap (passed t) all ∙ over_same (task_of t) empty_task t.n max_tasks (accepted (goal.at.returns c).At-loop-i).tasks_most
 
 pub offset_bounds-t-i : goal.offset_bounds-t-i
 offset_bounds-t-i c = omega (arith, (accepted (goal.at.offset_bounds-t-i c).At-loop-i).tasks_most)

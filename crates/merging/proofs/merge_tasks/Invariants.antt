@@ -1,5 +1,5 @@
 -- `merging::merge_tasks` meets its contract. The loop's invariant: the tasks passed are merged, and the others empty. Assumes nothing.
-use Prim.Native.Nat.{ℕ, ◌-◌, ◌≤◌}
+use Prim.Native.Nat.{ℕ}
 use mathlib.Core.Path.{◌≡◌}
 use mathlib.Core.List.{List, ◌++◌}
 use lib.ListN.{drop, replicate}
@@ -20,7 +20,4 @@ abbrev pub passed : Table → ℕ → List Task
 passed t i = row_to i (task_of t) ++ drop i (replicate max_tasks empty_task)
 
 abbrev pub invariant-loop-i : goal.invariant-loop-i
-invariant-loop-i l = (l.i ≤ l.t.n) × (l.tasks ≡ passed l.t l.i)
-
-abbrev pub decreases-loop-i : goal.decreases-loop-i
-decreases-loop-i l = l.t.n - l.i
+invariant-loop-i l = l.tasks ≡ passed l.t l.i
