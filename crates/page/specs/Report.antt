@@ -3,8 +3,9 @@ use Rattle.std.specs.Prelude.{ℕ, suc, ◌+◌, ◌*◌, Bool, true, false, Lis
 use Rattle.basics.specs.Over.{join_to}
 use Rattle.basics.specs.Text.{bytes, ending}
 use Rattle.table.specs.declared.Table.{Table}
-use Rattle.table.specs.declared.Checked.{Checked}
-use Rattle.table.specs.declared.Checked.TheVariants.{Fine, Refused}
+use Rattle.table.specs.Faults.{Checked}
+use Rattle.std.specs.Prelude.{Option, Some, None, Ok, Err}
+use Rattle.table.specs.Answers.{answer_of, table_from}
 use Rattle.table.specs.Limits.{max_tasks}
 use Rattle.table.specs.Faults.{◌then◌}
 use Rattle.table.specs.Rules.{has_alpha}
@@ -20,8 +21,6 @@ use Rattle.analysis.specs.Answers.{analysis_fault}
 use Rattle.waits.specs.Answers.{wait_in}
 use Rattle.page.specs.declared.Columns.{Columns}
 use Rattle.page.specs.declared.Columns.TheVariants.{Four, Five}
-use Rattle.page.specs.declared.Bound.{Bound}
-use Rattle.page.specs.declared.Bound.TheVariants.{Of, Dash}
 
 -- "`report` allows 10,000,000", as many as the longest time has microseconds, so that none of its verdicts is open; "a second program `bench`, else the same, allows 5"
 unfoldable pub report_allowance : ℕ
@@ -33,19 +32,19 @@ bench_allowance = 5
 -- ---- a row
 
 -- "the bound in microseconds", or `-`
-abbrev pub bound_text : Bound → List ℕ
-bound_text (Of t) = count_text t
-bound_text Dash = bytes "-"
+abbrev pub bound_text : Option ℕ → List ℕ
+bound_text (Some t) = count_text t
+bound_text None = bytes "-"
 
 -- a row from its number, word, bound and rounds, and what more it has
-unfoldable pub row_with : ℕ → List ℕ → Bound → ℕ → List (List ℕ) → List ℕ
+unfoldable pub row_with : ℕ → List ℕ → Option ℕ → ℕ → List (List ℕ) → List ℕ
 row_with number word bound rounds more = count_text number ++ ending (word ∷ bound_text bound ∷ count_text rounds ∷ more)
 
 -- "for each task its number, `meets` and the bound in microseconds, or `misses` and `-`", or "`open`, printed with `-`"; and "a fourth column `rounds`"
 unfoldable pub row_text : ℕ → Verdict → ℕ → List (List ℕ) → List ℕ
-row_text number (Meets t) rounds more = row_with number (bytes "meets") (Of t) rounds more
-row_text number Misses rounds more = row_with number (bytes "misses") Dash rounds more
-row_text number Open rounds more = row_with number (bytes "open") Dash rounds more
+row_text number (Meets t) rounds more = row_with number (bytes "meets") (Some t) rounds more
+row_text number Misses rounds more = row_with number (bytes "misses") None rounds more
+row_text number Open rounds more = row_with number (bytes "open") None rounds more
 
 -- request 8/12: "a fifth column `wait_us`, `-` without alpha", of the task at slot i. Alpha is given "for all tasks or none", so that the first task tells
 abbrev pub wait_text : Bool → ℕ → List ℕ
@@ -83,15 +82,15 @@ task_row columns t allowance i = let r = counted_in t allowance (level i) in row
 
 -- "Refused, it prints one line, as `refused 9 line 2`"
 abbrev pub or_refusal : Checked → List ℕ → List ℕ
-or_refusal Fine text = text
-or_refusal (Refused r) text = refusal_text Listing r
+or_refusal (Ok _) text = text
+or_refusal (Err r) text = refusal_text Listing r
 
 -- the reading's refusal, or the analysis', or the verdicts, their rounds and, of a page of five columns, the waits
 unfoldable pub report_text : Columns → ℕ → List ℕ → List ℕ
 report_text columns allowance s =
     let r = read_listing s in
-    let t = r.table in
-    or_refusal (r.answer then analysis_fault t allowance max_tasks) (page_text columns t.n (task_row columns t allowance))
+    let t = table_from r in
+    or_refusal (answer_of r then analysis_fault t allowance max_tasks) (page_text columns t.n (task_row columns t allowance))
 
 -- what each program prints: "`report` alone prints" the wait
 abbrev pub report_prints : List ℕ → List ℕ

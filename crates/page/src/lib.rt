@@ -1,15 +1,13 @@
 // What the programs `report` and `bench` print. What stands in a row for a verdict they say themselves.
 #![tactic(auto)]
 
-ghost use Rattle.std.specs.Prelude.{◌≡◌, ◌++◌, ◌≤◌, length, drop};
+ghost use Rattle.std.specs.Prelude.{◌≡◌, ◌++◌, ◌≤◌, ◌<◌, length, drop};
 ghost use Rattle.table.specs.Limits.{max_tasks};
 ghost use Rattle.page.specs.Report.{header, max_header, max_page, page_text};
-ghost use Rattle.page.specs.Pages.{column_of, last_of, page_of, cells_row, page_answer, page_into};
+ghost use Rattle.page.specs.Pages.{column_of, last_of, wait_at, page_of, cells_row, page_answer, page_into};
 
 use analysis::Record;
-use put::Put;
-use refusal::Source;
-use table::{Checked, Level, Table};
+use table::{Level, Refusal, Table};
 use theory::Verdict;
 
 mod row;
@@ -25,16 +23,9 @@ pub enum Word {
     Open,
 }
 
-// What stands for a bound in a row: its microseconds, or a dash.
+// What stands for a verdict in a row: a word, and the bound's microseconds, or none, for which a dash is put. The program, which takes the verdict apart, says what that is.
 #[derive(Clone, Copy)]
-pub enum Bound {
-    Of(u32),
-    Dash,
-}
-
-// What stands for a verdict in a row. The program, which takes the verdict apart, says what that is.
-#[derive(Clone, Copy)]
-pub struct Cells(pub Word, pub Bound);
+pub struct Cells(pub Word, pub Option<u32>);
 
 // How many columns a page has: task, verdict, bound and rounds, or the wait besides.
 #[derive(Clone, Copy)]
@@ -43,7 +34,7 @@ pub enum Columns {
     Five,
 }
 
-// What stands behind the rounds in a row: nothing, or the wait's microseconds, or a dash.
+// What stands behind the rounds in a row: nothing, or a dash, or the wait's microseconds. Three things that are put, where an Option of an Option would say which of two are missing.
 #[derive(Clone, Copy)]
 enum Last {
     Nothing,
@@ -51,58 +42,46 @@ enum Last {
     Of(u64),
 }
 
-// What a page is made from: the refusal that it tells, or a record for each of n tasks, and of a page of five columns whether they have alphas, and what each then waits.
+// What a page is made from: a record for each of n tasks, and of a page of five columns what each then waits, if they have alphas. The memory is fixed, and `put_page` answers of
+// every n.
 #[derive(Clone, Copy)]
 pub struct Page {
-    pub answer: Checked,
     pub n: usize,
     pub rows: [Record; Table::MAX_TASKS],
     pub columns: Columns,
-    pub given: bool,
-    pub waits: [u64; Table::MAX_TASKS],
+    pub waits: Option<[u64; Table::MAX_TASKS]>,
 }
 
-// What a page has to say of waits.
-#[derive(Clone, Copy)]
-struct Column {
-    given: bool,
-    waits: [u64; Table::MAX_TASKS],
-}
-
-// The waits of a table that has alphas, for a page of five columns. The first task tells whether it has: all have one or none.
-fn column_of(t: Table, columns: Columns) -> Column
+// The waits of a table that has alphas, for a page of five columns. The first task tells whether it has, before anything is worked out: all have one or none.
+fn column_of(t: Table, columns: Columns) -> Option<[u64; Table::MAX_TASKS]>
     ensures { result ≡ column_of columns t }
 {
-    let none = Column {
-        given: false,
-        waits: [0; Table::MAX_TASKS],
-    };
     let Columns::Five = columns else {
-        return none;
+        return None;
     };
-    let first = t.tasks[0];
-    if first.alpha == 0 {
-        return none;
+    if t.tasks[0].alpha == 0 {
+        return None;
     }
-    let w = waits::wait_all(t);
-    let waits = w.of;
-    Column {
-        given: w.given,
-        waits,
-    }
+    waits::wait_all(t).unwrap_or(None)
 }
 
 // What stands behind the rounds in a row of these columns.
-fn last_of(columns: Columns, given: bool, wait: u64) -> Last
-    ensures { result ≡ last_of columns given wait }
+fn last_of(columns: Columns, wait: Option<u64>) -> Last
+    ensures { result ≡ last_of columns wait }
 {
-    let Columns::Five = columns else {
-        return Last::Nothing;
-    };
-    if !given {
-        return Last::Dash;
+    match (columns, wait) {
+        (Columns::Four, _) => Last::Nothing,
+        (Columns::Five, None) => Last::Dash,
+        (Columns::Five, Some(us)) => Last::Of(us),
     }
-    Last::Of(wait)
+}
+
+// What the task at slot i waits, if the page has waits.
+fn wait_at(p: &Page, i: usize) -> Option<u64>
+    requires { i < max_tasks }
+    ensures { result ≡ wait_at p.now.waits i }
+{
+    p.waits.as_ref().map(|us| us[i])
 }
 
 // The header of a page.
@@ -111,13 +90,13 @@ fn put_header(out: &mut [u8], columns: Columns) -> usize
     ensures { (result ≡ length (header columns)) × (out.new ≡ header columns ++ drop result out.old) }
 {
     match columns {
-        Columns::Four => put::put_text(out, b"task verdict bound_us rounds\n").length(),
-        Columns::Five => put::put_text(out, b"task verdict bound_us rounds wait_us\n").length(),
+        Columns::Four => put::put_text(out, b"task verdict bound_us rounds\n").unwrap_or(0),
+        Columns::Five => put::put_text(out, b"task verdict bound_us rounds wait_us\n").unwrap_or(0),
     }
 }
 
 // What is to be printed of a listing, in these columns, so many rounds being allowed for each task.
-pub fn page_of(listing: &[u8], columns: Columns, allowance: u32) -> Page
+pub fn page_of(listing: &[u8], columns: Columns, allowance: u32) -> Result<Page, Refusal>
     ensures { result ≡ page_of listing.now columns allowance }
 {
     let none = Record {
@@ -125,33 +104,17 @@ pub fn page_of(listing: &[u8], columns: Columns, allowance: u32) -> Page
         verdict: Verdict::Meets(0),
         rounds: 0,
     };
-    let empty = [none; Table::MAX_TASKS];
-    let r = listing::read(listing);
-    let read = r.answer;
-    let Checked::Fine = read else {
-        return Page {
-            answer: read,
-            n: 0,
-            rows: empty,
-            columns,
-            given: false,
-            waits: [0; Table::MAX_TASKS],
-        };
-    };
-    let t = r.table;
-    let a = analysis::analyse_all(t, allowance, empty);
-    let answer = a.answer;
+    let t = listing::read(listing)?;
+    let a = analysis::analyse_all(t, allowance, [none; Table::MAX_TASKS]);
+    a.answer?;
     let rows = a.rows;
-    let w = column_of(t, columns);
-    let waits = w.waits;
-    Page {
-        answer,
+    let waits = column_of(t, columns);
+    Ok(Page {
         n: t.n,
         rows,
         columns,
-        given: w.given,
         waits,
-    }
+    })
 }
 
 // The header, and the row of each record with its cells.
@@ -159,32 +122,21 @@ fn put_rows(out: &mut [u8], p: Page, cells: [Cells; Table::MAX_TASKS]) -> usize
     requires { (max_page ≤ length out.old) × (p.n ≤ max_tasks) }
     ensures { (result ≡ length (page_text p.columns p.n (cells_row p cells))) × (out.new ≡ page_text p.columns p.n (cells_row p cells) ++ drop result out.old) }
 {
-    let n = p.n;
-    let columns = p.columns;
-    let mut at = put_header(out, columns);
-    let mut i: usize = 0;
-    while i < n {
-        let last = last_of(columns, p.given, p.waits[i]);
+    let mut at = put_header(out, p.columns);
+    for i in 0..p.n {
+        let last = last_of(p.columns, wait_at(&p, i));
         at += row::put_row(&mut out[at..], p.rows[i], cells[i], last);
-        i += 1;
     }
     at
 }
 
-// A page, at the start of out: the refusal's line, or the header and the rows. The room is tested once, for the longest page; without it, or without a record for each row, it is
-// `Short`, and nothing is put.
-pub fn put_page(out: &mut [u8], p: Page, cells: [Cells; Table::MAX_TASKS]) -> Put
+// A page, at the start of out: the header and the rows. The room is tested once, for the longest page; without it, or without a record for each row, there is none, and nothing is
+// put.
+pub fn put_page(out: &mut [u8], p: Page, cells: [Cells; Table::MAX_TASKS]) -> Option<usize>
     ensures { (result ≡ page_answer p cells out.old) × (out.new ≡ page_into p cells out.old) }
 {
-    if out.len() < MAX_PAGE {
-        return Put::Short;
+    if out.len() < MAX_PAGE || Table::MAX_TASKS < p.n {
+        return None;
     }
-    let answer = p.answer;
-    if let Checked::Refused(f) = answer {
-        return refusal::put_refusal(out, Source::Listing, f);
-    }
-    if Table::MAX_TASKS < p.n {
-        return Put::Short;
-    }
-    Put::Wrote(put_rows(out, p, cells))
+    Some(put_rows(out, p, cells))
 }

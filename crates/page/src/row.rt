@@ -3,7 +3,7 @@ ghost use Rattle.std.specs.Prelude.{◌≡◌, ◌∷◌, ◌++◌, ◌+◌, ◌
 ghost use Rattle.page.specs.Report.{bound_text, max_row};
 ghost use Rattle.page.specs.Pages.{word_text, spaced_last, row_of};
 
-use crate::{Bound, Cells, Last, Word};
+use crate::{Cells, Last, Word};
 use analysis::Record;
 
 // A space and a field, at a place of out. This and the next three answer the place behind what they put.
@@ -13,7 +13,7 @@ fn spaced(out: &mut [u8], at: usize, s: &[u8]) -> usize
 {
     out[at] = 32;
     let rest = at + 1;
-    rest + put::put_text(&mut out[rest..], s).length()
+    rest + put::put_text(&mut out[rest..], s).unwrap_or(0)
 }
 
 // A space and a word.
@@ -29,14 +29,14 @@ fn spaced_word(out: &mut [u8], at: usize, word: Word) -> usize
 }
 
 // A space and a bound, of at most ten digits.
-fn spaced_bound(out: &mut [u8], at: usize, bound: Bound) -> usize
+fn spaced_bound(out: &mut [u8], at: usize, bound: Option<u32>) -> usize
     requires { at + 11 ≤ length out.old }
     ensures value { (result ≡ at + length (32 ∷ bound_text bound)) × (out.new ≡ take at out.old ++ ((32 ∷ bound_text bound) ++ drop result out.old)) }
     ensures upper_bound { result ≤ at + 11 }
 {
     match bound {
-        Bound::Of(t) => at + put::spaced_count(out, at, t as u64).length(),
-        Bound::Dash => spaced(out, at, b"-"),
+        Some(t) => at + put::spaced_count(out, at, t as u64).unwrap_or(0),
+        None => spaced(out, at, b"-"),
     }
 }
 
@@ -49,7 +49,7 @@ fn spaced_last(out: &mut [u8], at: usize, last: Last) -> usize
     match last {
         Last::Nothing => at,
         Last::Dash => spaced(out, at, b"-"),
-        Last::Of(wait) => at + put::spaced_count(out, at, wait).length(),
+        Last::Of(wait) => at + put::spaced_count(out, at, wait).unwrap_or(0),
     }
 }
 
@@ -59,12 +59,10 @@ pub(crate) fn put_row(out: &mut [u8], x: Record, cells: Cells, last: Last) -> us
     ensures value { (result ≡ length (row_of x cells last)) × (out.new ≡ row_of x cells last ++ drop result out.old) }
     ensures upper_bound { result ≤ max_row }
 {
-    let word = cells.0;
-    let bound = cells.1;
-    let a = put::put_count(out, x.task.0 as u64).length();
-    let b = spaced_word(out, a, word);
-    let c = spaced_bound(out, b, bound);
-    let d = c + put::spaced_count(out, c, x.rounds as u64).length();
+    let a = put::put_count(out, x.task.0 as u64).unwrap_or(0);
+    let b = spaced_word(out, a, cells.0);
+    let c = spaced_bound(out, b, cells.1);
+    let d = c + put::spaced_count(out, c, x.rounds as u64).unwrap_or(0);
     let e = spaced_last(out, d, last);
     out[e] = 10;
     e + 1

@@ -8,9 +8,9 @@ use Rattle.page.proofs.put_header.Goals as goal
 pub returns-in-Four : goal.returns-in-Four
 returns-in-Four c =
     rw c.in-Four.is
-    (written_all (header Four) c.args.out.now (omega arith) c.length.ensures c.put_text.ensures.0 c.put_text.ensures.1)
+    (written_all (header Four) c.args.out.now (omega arith) c.unwrap_or.ensures c.put_text.ensures.0 c.put_text.ensures.1)
 
 pub returns-in-Five : goal.returns-in-Five
 returns-in-Five c =
     rw c.in-Five.is
-    (written_all (header Five) c.args.out.now (omega arith) c.length-in-Five.ensures c.put_text-in-Five.ensures.0 c.put_text-in-Five.ensures.1)
+    (written_all (header Five) c.args.out.now (omega arith) c.unwrap_or-in-Five.ensures c.put_text-in-Five.ensures.0 c.put_text-in-Five.ensures.1)
