@@ -2,9 +2,8 @@
 #![tactic(auto)]
 
 use block::SIZE;
-use console::Input;
 use refusal::Source;
-use table::{Table, Written};
+use table::Table;
 
 mod bytes;
 
@@ -14,17 +13,21 @@ const MAX_ARCHIVE: usize = Table::MAX_TASKS * SIZE;
 fn main(rt: HostRuntime) {
     // one byte past the limit, to know that a listing is too long
     let mut space = [0u8; Table::MAX_LISTING + 1];
-    let Input::Got(n) = console::read_input(&mut rt.stdin(), &mut space) else {
-        console::write_all(&rt.stderr(), b"archive: the input could not be read\n");
+    let Ok(n) = console::read_input(&mut rt.stdin(), &mut space) else {
+        let _ = rt
+            .stderr()
+            .write_all(b"archive: the input could not be read\n");
         return;
     };
     let mut out = [0u8; MAX_ARCHIVE];
     match bytes::archive(&space[..n], &mut out) {
-        Written::Wrote(length) => {
-            if !console::write_all(&rt.stdout(), &out[..length]) {
-                console::write_all(&rt.stderr(), b"archive: the archive could not be written\n");
+        Ok(length) => {
+            if rt.stdout().write_all(&out[..length]).is_err() {
+                let _ = rt
+                    .stderr()
+                    .write_all(b"archive: the archive could not be written\n");
             }
         }
-        Written::NotWritten(r) => console::say_refusal(&rt.stderr(), Source::Listing, r),
+        Err(r) => console::say_refusal(&rt.stderr(), Source::Listing, r),
     }
 }

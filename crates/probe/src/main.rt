@@ -2,15 +2,13 @@
 // docs/PROBE.md describes its input. Its contracts say nothing: it is for comparing, and what it calls is proved elsewhere.
 #![tactic(auto)]
 
-ghost use Rattle.std.specs.Prelude.{◌≤◌, length};
+ghost use Rattle.std.specs.Prelude.{◌≤◌};
 
-use analysis::{Answer, Record};
-use console::Input;
-use put::Put;
+use analysis::Record;
+use std::array;
 use std::io::Stdout;
-use table::{Checked, Level, Pair, Reading, Refusal, Table, Task, Written};
+use table::{Level, Pair, Refusal, Table, Task};
 use theory::{Counted, Verdict};
-use waits::{Waiting, Waits};
 
 // The words of a task, and of a request that holds a table: an entry point, its argument, m, n in two words, 16 groups, 32 tasks, and an allowance of rounds.
 const TASK: usize = 4 + 3 * Table::MAX_RESOURCES;
@@ -43,12 +41,6 @@ const LIST: usize = 70;
 
 const MENDED: usize = 34_000;
 
-#[derive(Clone, Copy)]
-struct Lent {
-    answer: Checked,
-    rows: [Record; ROWS],
-}
-
 // The word at a place, its first byte the highest; 0 past the end.
 fn word(s: &[u8], at: usize) -> u32 {
     if WORDS <= at {
@@ -58,7 +50,7 @@ fn word(s: &[u8], at: usize) -> u32 {
     if s.len() < i + 4 {
         return 0;
     }
-    s[i] as u32 * 16_777_216 + s[i + 1] as u32 * 65_536 + s[i + 2] as u32 * 256 + s[i + 3] as u32
+    u32::from_be_bytes([s[i], s[i + 1], s[i + 2], s[i + 3]])
 }
 
 // The number whose two words begin at a place, the high one first.
@@ -72,96 +64,53 @@ fn long_at(s: &[u8], at: usize) -> u64
 fn task_at(s: &[u8], at: usize) -> Task
     requires { at ≤ 4000 }
 {
-    let mut pairs = [Pair {
-        requests: 0,
-        longest: 0,
-        total: 0,
-    }; Table::MAX_RESOURCES];
-    let mut k: usize = 0;
-    while k < Table::MAX_RESOURCES {
-        let p = at + 4 + 3 * k;
-        pairs[k] = Pair {
-            requests: word(s, p),
-            longest: word(s, p + 1),
-            total: word(s, p + 2),
-        };
-        k += 1;
-    }
     Task {
         period: word(s, at),
         run: word(s, at + 1),
         deadline: word(s, at + 2),
         alpha: word(s, at + 3),
-        pairs,
+        pairs: array::from_fn(|k| {
+            let p = at + 4 + 3 * k;
+            Pair {
+                requests: word(s, p),
+                longest: word(s, p + 1),
+                total: word(s, p + 2),
+            }
+        }),
     }
-}
-
-// The groups of resources 1 to 16.
-fn groups_of(s: &[u8]) -> [u32; Table::MAX_RESOURCES] {
-    let mut groups = [0u32; Table::MAX_RESOURCES];
-    let mut k: usize = 0;
-    while k < Table::MAX_RESOURCES {
-        groups[k] = word(s, GROUPS + k);
-        k += 1;
-    }
-    groups
 }
 
 // The table that begins at the third word.
 fn table_of(s: &[u8]) -> Table {
-    let mut t = Table::empty();
-    t.cpus = word(s, 2);
-    t.n = long_at(s, 3) as usize;
-    t.groups = groups_of(s);
-    let mut i: usize = 0;
-    while i < Table::MAX_TASKS {
-        t.tasks[i] = task_at(s, TASKS + i * TASK);
-        i += 1;
+    Table {
+        cpus: word(s, 2),
+        n: long_at(s, 3) as usize,
+        groups: array::from_fn(|k| word(s, GROUPS + k)),
+        tasks: array::from_fn(|i| task_at(s, TASKS + i * TASK)),
     }
-    t
 }
 
 fn say(to: &Stdout, s: &[u8]) {
     to.write_all(s).is_ok();
 }
 
-fn say_number(to: &Stdout, n: u32) {
-    to.print(n).is_ok();
-}
-
 fn say_refusal(to: &Stdout, r: Refusal) {
-    let fault = r.fault;
-    say(to, b"refused ");
-    say_number(to, fault.number());
-    say(to, b" place ");
-    say_number(to, r.place);
-    say(to, b"\n");
+    let _ = println!(to; "refused {} place {}", r.fault.number(), r.place);
 }
 
-fn say_checked(to: &Stdout, c: Checked) {
+fn say_checked(to: &Stdout, c: Result<(), Refusal>) {
     match c {
-        Checked::Fine => say(to, b"fine\n"),
-        Checked::Refused(r) => say_refusal(to, r),
+        Ok(()) => say(to, b"fine\n"),
+        Err(r) => say_refusal(to, r),
     }
-}
-
-fn say_rounds(to: &Stdout, rounds: u32) {
-    say(to, b" rounds ");
-    say_number(to, rounds);
-    say(to, b"\n");
 }
 
 fn say_counted(to: &Stdout, x: Counted) {
-    let v = x.verdict;
-    match v {
-        Verdict::Meets(t) => {
-            say(to, b"meets ");
-            say_number(to, t);
-        }
-        Verdict::Misses => say(to, b"misses"),
-        Verdict::Open => say(to, b"open"),
-    }
-    say_rounds(to, x.rounds);
+    let _ = match x.verdict {
+        Verdict::Meets(t) => println!(to; "meets {t} rounds {}", x.rounds),
+        Verdict::Misses => println!(to; "misses rounds {}", x.rounds),
+        Verdict::Open => println!(to; "open rounds {}", x.rounds),
+    };
 }
 
 // Entry point 1: `check`, which takes no argument.
@@ -184,295 +133,172 @@ fn mark(i: usize) -> Record
     }
 }
 
-fn marks() -> [Record; ROWS] {
-    let mut rows = [mark(0); ROWS];
-    let mut i: usize = 0;
-    while i < ROWS {
-        rows[i] = mark(i);
-        i += 1;
-    }
-    rows
-}
-
-// The front of a row, lent to the analysis.
-fn lend(t: Table, allowance: u32, rows: [Record; ROWS], room: usize) -> Lent
-    requires { room ≤ 40 }
-{
-    let mut row = rows;
-    let answer = analysis::analyse(t, allowance, &mut row[..room]);
-    Lent { answer, rows: row }
-}
-
-fn say_rows(to: &Stdout, l: Lent) {
-    let mut i: usize = 0;
-    while i < ROWS {
-        let x = l.rows[i];
-        let verdict = x.verdict;
-        say_number(to, x.task.0);
-        say(to, b" ");
-        say_counted(
-            to,
-            Counted {
-                verdict,
-                rounds: x.rounds,
-            },
-        );
-        i += 1;
-    }
-}
-
-// Entry point 3: `analyse`, with a row of so many records.
+// Entry point 3: `analyse`, with a row of so many records, the front of a longer one.
 fn analyse(to: &Stdout, t: Table, allowance: u32, room: u32) {
     if ROWS < room as usize {
         say(to, b"bad row\n");
         return;
     }
-    let l = lend(t, allowance, marks(), room as usize);
-    let answer = l.answer;
-    say_checked(to, answer);
-    say_rows(to, l);
+    let mut rows: [Record; ROWS] = array::from_fn(|i| mark(i));
+    say_checked(
+        to,
+        analysis::analyse(t, allowance, &mut rows[..room as usize]),
+    );
+    for x in &rows {
+        let _ = print!(to; "{} ", x.task.0);
+        say_counted(
+            to,
+            Counted {
+                verdict: x.verdict,
+                rounds: x.rounds,
+            },
+        );
+    }
 }
 
 // Entry point 2: `bound`, of a task.
 fn bound(to: &Stdout, t: Table, task: u32, allowance: u32) {
-    let answer = analysis::bound(t, Level(task), allowance);
-    match answer {
-        Answer::Known(x) => say_counted(to, x),
-        Answer::Unknown(r) => say_refusal(to, r),
-    }
-}
-
-// A wait, on a line.
-fn say_wait(to: &Stdout, us: u64) {
-    to.print(us).is_ok();
-    say(to, b"\n");
-}
-
-fn say_waits(to: &Stdout, w: Waits) {
-    let answer = w.answer;
-    say_checked(to, answer);
-    if w.given {
-        say(to, b"alpha\n");
-    } else {
-        say(to, b"no alpha\n");
-    }
-    let mut i: usize = 0;
-    while i < Table::MAX_TASKS {
-        say_wait(to, w.of[i]);
-        i += 1;
+    match analysis::bound(t, Level(task), allowance) {
+        Ok(x) => say_counted(to, x),
+        Err(r) => say_refusal(to, r),
     }
 }
 
 // Entry point 10: `wait`, of a task.
 fn wait(to: &Stdout, t: Table, task: u32) {
-    let answer = waits::wait(t, Level(task));
-    match answer {
-        Waiting::For(us) => {
-            say(to, b"wait ");
-            say_wait(to, us);
+    match waits::wait(t, Level(task)) {
+        Ok(Some(us)) => {
+            let _ = println!(to; "wait {us}");
         }
-        Waiting::NoAlpha => say(to, b"no alpha\n"),
-        Waiting::Unknown(r) => say_refusal(to, r),
+        Ok(None) => say(to, b"no alpha\n"),
+        Err(r) => say_refusal(to, r),
     }
 }
 
-// Entry point 11: `wait_all`, which takes no argument.
+// Entry point 11: `wait_all`, which takes no argument. Where there is no wait, zeros are printed.
 fn wait_all(to: &Stdout, t: Table, argument: u32) {
     if 0 < argument {
         say(to, b"bad argument\n");
         return;
     }
-    say_waits(to, waits::wait_all(t));
-}
-
-// A number, after a space.
-fn say_next(to: &Stdout, n: u32) {
-    say(to, b" ");
-    say_number(to, n);
-}
-
-fn say_pair(to: &Stdout, p: Pair) {
-    say_next(to, p.requests);
-    say_next(to, p.longest);
-    say_next(to, p.total);
+    let all = waits::wait_all(t);
+    say_checked(to, all.map(|_| ()));
+    let given = all.unwrap_or(None);
+    if given.is_some() {
+        say(to, b"alpha\n");
+    } else {
+        say(to, b"no alpha\n");
+    }
+    for us in given.unwrap_or([0; Table::MAX_TASKS]) {
+        let _ = println!(to; "{us}");
+    }
 }
 
 // T, C, D, alpha and the pairs of a task, on a line.
-fn say_task(to: &Stdout, x: Task) {
-    say_number(to, x.period);
-    say_next(to, x.run);
-    say_next(to, x.deadline);
-    say_next(to, x.alpha);
-    let mut k: usize = 0;
-    while k < Table::MAX_RESOURCES {
-        say_pair(to, x.pairs[k]);
-        k += 1;
+fn say_task(to: &Stdout, x: &Task) {
+    let _ = print!(to; "{} {} {} {}", x.period, x.run, x.deadline, x.alpha);
+    for p in &x.pairs {
+        let _ = print!(to; " {} {} {}", p.requests, p.longest, p.total);
     }
     say(to, b"\n");
 }
 
-fn say_tasks(to: &Stdout, t: Table) {
-    let n = t.n;
-    let mut i: usize = 0;
-    while i < Table::MAX_TASKS {
-        if i < n {
-            say_task(to, t.tasks[i]);
-        }
-        i += 1;
-    }
-}
-
-// Entry point 13: `merge`, which takes no argument. The table of a refused one has no task.
+// Entry point 13: `merge`, which takes no argument.
 fn merge(to: &Stdout, t: Table, argument: u32) {
     if 0 < argument {
         say(to, b"bad argument\n");
         return;
     }
-    let r = merging::merge(t);
-    let answer = r.answer;
-    say_checked(to, answer);
-    say_tasks(to, r.table);
+    match merging::merge(t) {
+        Ok(m) => {
+            say(to, b"fine\n");
+            for x in m.tasks.iter().take(m.n) {
+                say_task(to, x);
+            }
+        }
+        Err(r) => say_refusal(to, r),
+    }
 }
 
 fn say_wrote(to: &Stdout, k: usize) {
-    say(to, b"wrote ");
-    to.print(k).is_ok();
-    say(to, b"\n");
+    let _ = println!(to; "wrote {k}");
 }
 
-fn say_written(to: &Stdout, w: Written) {
+fn say_written(to: &Stdout, w: Result<usize, Refusal>) {
     match w {
-        Written::Wrote(k) => say_wrote(to, k),
-        Written::NotWritten(r) => say_refusal(to, r),
+        Ok(k) => say_wrote(to, k),
+        Err(r) => say_refusal(to, r),
     }
 }
 
-fn say_put(to: &Stdout, p: Put) {
+fn say_put(to: &Stdout, p: Option<usize>) {
     match p {
-        Put::Wrote(k) => say_wrote(to, k),
-        Put::Short => say(to, b"short\n"),
+        Some(k) => say_wrote(to, k),
+        None => say(to, b"short\n"),
     }
 }
 
-// The front of an output, lent to a writer; then the answer, and all of the output.
-fn write_into(to: &Stdout, t: Table, out: &mut [u8], room: usize)
-    requires { room ≤ length out.old }
+// The front of an output, so many bytes of it, lent to a writer, which says what it answers; then all of the output.
+fn with_output<F: FnOnce(&mut [u8])>(to: &Stdout, room: u32, writer: F)
+    requires { F.IsAlwaysCallable writer }
 {
-    say_written(to, writing::write(t, &mut out[..room]));
-    say(to, out);
-}
-
-fn archive_into(to: &Stdout, t: Table, out: &mut [u8], room: usize)
-    requires { room ≤ length out.old }
-{
-    say_written(to, card::write(t, &mut out[..room]));
-    say(to, out);
-}
-
-fn time_into(to: &Stdout, us: u32, out: &mut [u8], room: usize)
-    requires { room ≤ length out.old }
-{
-    say_put(to, put::put_time(&mut out[..room], us));
-    say(to, out);
-}
-
-fn count_into(to: &Stdout, n: u64, out: &mut [u8], room: usize)
-    requires { room ≤ length out.old }
-{
-    say_put(to, put::put_count(&mut out[..room], n));
-    say(to, out);
-}
-
-// The fronts of a list and of an output, lent to the tool for cards with bad blocks; then the answer, all of the list, and all of the output.
-fn salvage_into(
-    to: &Stdout,
-    input: &[u8],
-    list: &mut [u8],
-    entries: usize,
-    out: &mut [u8],
-    room: usize,
-)
-    requires { (entries ≤ length list.old) × (room ≤ length out.old) }
-{
-    say_written(
-        to,
-        salvaging::salvage(input, &mut list[..entries], &mut out[..room]),
-    );
-    say(to, list);
-    say(to, out);
+    if OUTPUT < room as usize {
+        say(to, b"bad output\n");
+        return;
+    }
+    let mut out = [b'#'; OUTPUT];
+    writer(&mut out[..room as usize]);
+    say(to, &out);
 }
 
 // Entry point 4: `writing::write`, with an output of so many bytes.
 fn write(to: &Stdout, t: Table, room: u32) {
-    if OUTPUT < room as usize {
-        say(to, b"bad output\n");
-        return;
-    }
-    let mut out = [b'#'; OUTPUT];
-    write_into(to, t, &mut out, room as usize);
+    with_output(to, room, |out| say_written(to, writing::write(t, out)));
 }
 
 // Entry point 6: `card::write`, with an output of so many bytes.
 fn archive(to: &Stdout, t: Table, room: u32) {
-    if OUTPUT < room as usize {
-        say(to, b"bad output\n");
-        return;
-    }
-    let mut out = [b'#'; OUTPUT];
-    archive_into(to, t, &mut out, room as usize);
+    with_output(to, room, |out| say_written(to, card::write(t, out)));
 }
 
 // Entry point 8: `put::put_time`, with an output of so many bytes.
 fn put_time(to: &Stdout, us: u32, room: u32) {
-    if OUTPUT < room as usize {
-        say(to, b"bad output\n");
-        return;
-    }
-    let mut out = [b'#'; OUTPUT];
-    time_into(to, us, &mut out, room as usize);
+    with_output(to, room, |out| say_put(to, put::put_time(out, us)));
 }
 
 // Entry point 12: `put::put_count`, with an output of so many bytes.
 fn put_count(to: &Stdout, n: u64, room: u32) {
-    if OUTPUT < room as usize {
-        say(to, b"bad output\n");
-        return;
-    }
-    let mut out = [b'#'; OUTPUT];
-    count_into(to, n, &mut out, room as usize);
+    with_output(to, room, |out| say_put(to, put::put_count(out, n)));
 }
 
-// What a reader answers; then `writing::write` of the table that it gives.
-fn say_reading(to: &Stdout, r: Reading) {
-    let answer = r.answer;
-    say_checked(to, answer);
-    write(to, r.table, OUTPUT as u32);
+// What a reader answers; then `writing::write` of the table that it gives, or of the empty one.
+fn say_reading(to: &Stdout, r: Result<Table, Refusal>) {
+    say_checked(to, r.map(|_| ()));
+    write(to, r.unwrap_or(Table::empty()), OUTPUT as u32);
 }
 
 // Entry point 5: `listing::read`, of a listing of so many bytes.
 fn read(to: &Stdout, s: &[u8], length: u32) {
-    if s.len() < INPUT + length as usize {
-        say(to, b"bad listing\n");
-        return;
+    match s.get(INPUT..INPUT + length as usize) {
+        Some(listing) => say_reading(to, listing::read(listing)),
+        None => say(to, b"bad listing\n"),
     }
-    say_reading(to, listing::read(&s[INPUT..INPUT + length as usize]));
 }
 
 // Entry point 7: `card::read`, of an archive of so many bytes.
 fn unarchive(to: &Stdout, s: &[u8], length: u32) {
-    if s.len() < INPUT + length as usize {
-        say(to, b"bad archive\n");
-        return;
+    match s.get(INPUT..INPUT + length as usize) {
+        Some(archive) => say_reading(to, card::read(archive)),
+        None => say(to, b"bad archive\n"),
     }
-    say_reading(to, card::read(&s[INPUT..INPUT + length as usize]));
 }
 
 // Entry point 9: `salvaging::salvage`, of a card of so many bytes, with a list of so many entries and an output of so many bytes.
 fn salvage(to: &Stdout, s: &[u8], length: u32, entries: u32, room: u32) {
-    if s.len() < CARD + length as usize {
+    let Some(card) = s.get(CARD..CARD + length as usize) else {
         say(to, b"bad card\n");
         return;
-    }
+    };
     if LIST < entries as usize {
         say(to, b"bad list\n");
         return;
@@ -483,20 +309,20 @@ fn salvage(to: &Stdout, s: &[u8], length: u32, entries: u32, room: u32) {
     }
     let mut list = [b'#'; LIST];
     let mut out = [b'#'; MENDED];
-    salvage_into(
-        to,
-        &s[CARD..CARD + length as usize],
-        &mut list,
-        entries as usize,
-        &mut out,
-        room as usize,
+    let answer = salvaging::salvage(
+        card,
+        &mut list[..entries as usize],
+        &mut out[..room as usize],
     );
+    say_written(to, answer);
+    say(to, &list);
+    say(to, &out);
 }
 
 fn main(rt: HostRuntime) {
     let to = &rt.stdout();
     let mut space = [0u8; BYTES];
-    let Input::Got(n) = console::read_input(&mut rt.stdin(), &mut space) else {
+    let Ok(n) = console::read_input(&mut rt.stdin(), &mut space) else {
         say(to, b"bad request\n");
         return;
     };
@@ -506,6 +332,7 @@ fn main(rt: HostRuntime) {
     }
     let t = table_of(&space);
     let argument = word(&space, 1);
+    // a request tells its entry point by number, as docs/PROBE.md lists them
     match word(&space, 0) {
         1 => check(to, t, argument),
         2 => bound(to, t, argument, word(&space, ALLOWANCE)),

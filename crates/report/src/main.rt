@@ -1,7 +1,6 @@
 // Reads a listing from standard input and prints the bound and the wait of each task, or the refusal.
 #![tactic(auto)]
 
-use console::Input;
 use table::Table;
 
 mod text;
@@ -9,13 +8,17 @@ mod text;
 fn main(rt: HostRuntime) {
     // one byte past the limit, to know that a listing is too long
     let mut space = [0u8; Table::MAX_LISTING + 1];
-    let Input::Got(n) = console::read_input(&mut rt.stdin(), &mut space) else {
-        console::write_all(&rt.stderr(), b"report: the input could not be read\n");
+    let Ok(n) = console::read_input(&mut rt.stdin(), &mut space) else {
+        let _ = rt
+            .stderr()
+            .write_all(b"report: the input could not be read\n");
         return;
     };
     let mut out = [0u8; page::MAX_PAGE];
     let length = text::report(&space[..n], &mut out);
-    if !console::write_all(&rt.stdout(), &out[..length]) {
-        console::write_all(&rt.stderr(), b"report: the report could not be written\n");
+    if rt.stdout().write_all(&out[..length]).is_err() {
+        let _ = rt
+            .stderr()
+            .write_all(b"report: the report could not be written\n");
     }
 }

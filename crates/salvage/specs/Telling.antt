@@ -1,10 +1,10 @@
 -- Request 5/12 of document 02: "it lists each input block". What the program `salvage` tells of a card: a line for each block, as `3 moved`, and after them, where the card is refused, its line, as `refused 14 place 0`. The list and the output that it lends have room for every card, so 11 is not among these.
-use Rattle.std.specs.Prelude.{ℕ, ◌+◌, ◌*◌, List, [], ◌++◌, length, eqb}
+use Rattle.std.specs.Prelude.{ℕ, ◌+◌, ◌*◌, List, [], ◌++◌, length, eqb, Ok, Err}
 use Rattle.basics.specs.Choice.{pick}
 use Rattle.basics.specs.Over.{join_to}
 use Rattle.basics.specs.Text.{bytes}
-use Rattle.table.specs.declared.Written.{Written}
-use Rattle.table.specs.declared.Written.TheVariants.{Wrote, NotWritten}
+use Rattle.table.specs.Answers.{Written}
+use Rattle.std.specs.Result.{result_unwrap_or}
 use Rattle.put.specs.Text.{count_text}
 use Rattle.refusal.specs.declared.Source.TheVariants.{Card}
 use Rattle.refusal.specs.Refusal.{refusal_text}
@@ -45,14 +45,13 @@ fate_line s i = word_line (i + 1) (fate_word (fate_at s i))
 abbrev pub code_line : List ℕ → ℕ → List ℕ
 code_line list i = word_line (i + 1) (code_word (byte_at list i))
 
--- what an answer says: how many bytes were written, and the line of its refusal
+-- what an answer says: how many bytes were written, which is `unwrap_or(0)` of it, and the line of its refusal
 abbrev pub wrote_length : Written → ℕ
-wrote_length (Wrote n) = n
-wrote_length (NotWritten r) = 0
+wrote_length answer = result_unwrap_or answer 0
 
 abbrev pub refused_by : Written → List ℕ
-refused_by (Wrote n) = []
-refused_by (NotWritten r) = refusal_text Card r
+refused_by (Ok n) = []
+refused_by (Err r) = refusal_text Card r
 
 -- the list, unless 15 is given, and the refusal
 unfoldable pub told_text : List ℕ → List ℕ

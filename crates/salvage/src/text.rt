@@ -1,16 +1,14 @@
 // A card's bytes to an archive's, and to what is told of them.
 ghost use Rattle.std.specs.Prelude.{◌≡◌, ◌++◌, ◌≤◌, length, drop};
 ghost use Rattle.basics.specs.Over.{join_to};
-ghost use Rattle.basics.specs.Text.{put_into};
-ghost use Rattle.put.specs.Text.{put_answer};
+ghost use Rattle.basics.specs.Text.{bytes};
 ghost use Rattle.salvaging.specs.Salvage.{max_blocks, salvage_answer, salvaged};
 ghost use Rattle.salvage.specs.Telling.{max_card, max_told, code_word, word_line, code_line, told_text, refused_by, wrote_length};
 
 use block::SIZE;
-use put::Put;
 use refusal::Source;
 use salvaging::MAX_BLOCKS;
-use table::Written;
+use table::Refusal;
 
 // The longest card.
 pub(crate) const CARD: usize = MAX_BLOCKS * SIZE;
@@ -25,15 +23,15 @@ pub(crate) struct Made {
     pub(crate) told: usize,
 }
 
-// The word for a code of the list, at the start of out.
-fn put_word(out: &mut [u8], code: u8) -> Put
-    ensures { (result ≡ put_answer (code_word code) out.old) × (out.new ≡ put_into (code_word code) out.old) }
+// What stands behind the position in a block's line, by the code that the list has for it. The list is bytes, as `salvaging` fills it; no fate stands in it to be read back.
+fn word(code: u8) -> &'static [u8]
+    ensures { result.now ≡ bytes " " ++ (code_word code ++ bytes "\n") }
 {
     match code {
-        0 => put::put_text(out, b"bad"),
-        1 => put::put_text(out, b"doubled"),
-        2 => put::put_text(out, b"kept"),
-        _ => put::put_text(out, b"moved"),
+        0 => b" bad\n",
+        1 => b" doubled\n",
+        2 => b" kept\n",
+        _ => b" moved\n",
     }
 }
 
@@ -42,10 +40,8 @@ fn put_line(out: &mut [u8], position: u32, code: u8) -> usize
     requires { 19 ≤ length out.old }
     ensures { (result ≡ length (word_line position (code_word code))) × (out.new ≡ word_line position (code_word code) ++ drop result out.old) }
 {
-    let a = put::put_count(out, position as u64).length();
-    let b = a + put::put_text(&mut out[a..], b" ").length();
-    let c = b + put_word(&mut out[b..], code).length();
-    c + put::put_text(&mut out[c..], b"\n").length()
+    let at = put::put_count(out, u64::from(position)).unwrap_or(0);
+    at + put::put_text(&mut out[at..], word(code)).unwrap_or(0)
 }
 
 // A line for each entry of the list.
@@ -54,32 +50,20 @@ fn put_lines(out: &mut [u8], list: &[u8]) -> usize
     ensures { (result ≡ length (join_to (length list.now) (code_line list.now))) × (out.new ≡ join_to (length list.now) (code_line list.now) ++ drop result out.old) }
 {
     let mut at: usize = 0;
-    let mut i: usize = 0;
-    while i < list.len() {
-        at += put_line(&mut out[at..], (i + 1) as u32, list[i]);
-        i += 1;
+    for (i, &code) in list.iter().enumerate() {
+        at += put_line(&mut out[at..], i as u32 + 1, code);
     }
     at
 }
 
 // The line of the refusal, if there is one.
-fn put_refused(out: &mut [u8], w: Written) -> usize
+fn put_refused(out: &mut [u8], w: Result<usize, Refusal>) -> usize
     requires { 56 ≤ length out.old }
     ensures { (result ≡ length (refused_by w)) × (out.new ≡ refused_by w ++ drop result out.old) }
 {
     match w {
-        Written::Wrote(_) => 0,
-        Written::NotWritten(r) => refusal::put_refusal(out, Source::Card, r).length(),
-    }
-}
-
-// How many bytes were written.
-fn length_of(w: Written) -> usize
-    ensures { result ≡ wrote_length w }
-{
-    match w {
-        Written::Wrote(n) => n,
-        Written::NotWritten(_) => 0,
+        Ok(_) => 0,
+        Err(r) => refusal::put_refusal(out, Source::Card, r).unwrap_or(0),
     }
 }
 
@@ -93,7 +77,7 @@ pub(crate) fn salvage(card: &[u8], out: &mut [u8], told: &mut [u8]) -> Made
     let answer = salvaging::salvage(card, &mut list, out);
     let at = put_lines(told, &list[..k]);
     Made {
-        archive: length_of(answer),
+        archive: answer.unwrap_or(0),
         told: at + put_refused(&mut told[at..], answer),
     }
 }

@@ -3,17 +3,13 @@ ghost use Rattle.std.specs.Prelude.{◌≡◌, ◌≤◌, length};
 ghost use Rattle.writing.specs.Longest.{max_text};
 ghost use Rattle.unarchive.specs.Unarchiving.{from_card, with_listing};
 
-use table::{Checked, Written};
+use table::Refusal;
 
 // The listing of an archive's table, at the start of out.
-pub(crate) fn unarchive(archive: &[u8], out: &mut [u8]) -> Written
+pub(crate) fn unarchive(archive: &[u8], out: &mut [u8]) -> Result<usize, Refusal>
     requires { max_text ≤ length out.old }
     ensures { (result ≡ from_card archive.now) × (out.new ≡ with_listing archive.now out.old) }
 {
-    let r = card::read(archive);
-    let answer = r.answer;
-    if let Checked::Refused(f) = answer {
-        return Written::NotWritten(f);
-    }
-    writing::write(r.table, out)
+    let t = card::read(archive)?;
+    writing::write(t, out)
 }

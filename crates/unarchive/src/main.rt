@@ -2,9 +2,8 @@
 #![tactic(auto)]
 
 use block::SIZE;
-use console::Input;
 use refusal::Source;
-use table::{Table, Written};
+use table::Table;
 
 mod bytes;
 
@@ -14,20 +13,21 @@ const MAX_ARCHIVE: usize = Table::MAX_TASKS * SIZE;
 fn main(rt: HostRuntime) {
     // one byte past it, to know that an archive is too long
     let mut space = [0u8; MAX_ARCHIVE + 1];
-    let Input::Got(n) = console::read_input(&mut rt.stdin(), &mut space) else {
-        console::write_all(&rt.stderr(), b"unarchive: the input could not be read\n");
+    let Ok(n) = console::read_input(&mut rt.stdin(), &mut space) else {
+        let _ = rt
+            .stderr()
+            .write_all(b"unarchive: the input could not be read\n");
         return;
     };
     let mut out = [0u8; writing::MAX_TEXT];
     match bytes::unarchive(&space[..n], &mut out) {
-        Written::Wrote(length) => {
-            if !console::write_all(&rt.stdout(), &out[..length]) {
-                console::write_all(
-                    &rt.stderr(),
-                    b"unarchive: the listing could not be written\n",
-                );
+        Ok(length) => {
+            if rt.stdout().write_all(&out[..length]).is_err() {
+                let _ = rt
+                    .stderr()
+                    .write_all(b"unarchive: the listing could not be written\n");
             }
         }
-        Written::NotWritten(r) => console::say_refusal(&rt.stderr(), Source::Card, r),
+        Err(r) => console::say_refusal(&rt.stderr(), Source::Card, r),
     }
 }

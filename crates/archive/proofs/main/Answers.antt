@@ -6,23 +6,23 @@ use lib.ListN.{length}
 use lib.Seq.{length-take-le}
 use Rattle.archive.proofs.Fits.{archive_fits}
 use Rattle.archive.proofs.main.Goals as goal
-use Rattle.archive.proofs.main.Goals.{In-Got, In-Wrote}
+use Rattle.archive.proofs.main.Goals.{In-Ok, In-Ok-archive}
 
-read : (c : goal.In-Got) → c.in-Got.n ≤ length c.read_input.new.buf
-read c = c.read_input.ensures _ c.in-Got.is
+read : (c : goal.In-Ok) → c.in-Ok.n ≤ length c.read_input.new.buf
+read c = rw c.in-Ok.is at c.read_input.ensures
 
-made : (c : goal.In-Wrote) → c.in-Wrote.length ≤ length c.archive.new.out
+made : (c : goal.In-Ok-archive) → c.in-Ok-archive.length ≤ length c.archive.new.out
 made c =
-    omega (arith, archive_fits _ _ (sym c.archive.ensures.0 ∙ c.in-Wrote.is), c.archive.auto.out)
+    omega (arith, archive_fits _ _ (sym c.archive.ensures.0 ∙ c.in-Ok-archive.is), c.archive.auto.out)
 
 pub slice_bounds-space-end : goal.slice_bounds-space-end
-slice_bounds-space-end c = read (goal.at.slice_bounds-space-end c).In-Got
+slice_bounds-space-end c = read (goal.at.slice_bounds-space-end c).In-Ok
 
 pub slice_bounds-archive-end : goal.slice_bounds-archive-end
-slice_bounds-archive-end c = sym (length-take-le _ _ (read (goal.at.slice_bounds-archive-end c).In-Got))
+slice_bounds-archive-end c = sym (length-take-le _ _ (read (goal.at.slice_bounds-archive-end c).In-Ok))
 
 pub slice_bounds-out-end : goal.slice_bounds-out-end
-slice_bounds-out-end c = made (goal.at.slice_bounds-out-end c).In-Wrote
+slice_bounds-out-end c = made (goal.at.slice_bounds-out-end c).In-Ok-archive
 
-pub slice_bounds-write_all-end-in-Wrote : goal.slice_bounds-write_all-end-in-Wrote
-slice_bounds-write_all-end-in-Wrote c = sym (length-take-le _ _ (made (goal.at.slice_bounds-write_all-end-in-Wrote c).In-Wrote))
+pub slice_bounds-write_all-end-in-Ok-archive : goal.slice_bounds-write_all-end-in-Ok-archive
+slice_bounds-write_all-end-in-Ok-archive c = sym (length-take-le _ _ (made (goal.at.slice_bounds-write_all-end-in-Ok-archive c).In-Ok-archive))

@@ -1,13 +1,8 @@
 -- `salvage::text::put_lines` meets its contract. The loop's invariant: the output is filled with the lines of the entries passed. Assumes nothing.
-use Prim.Native.Nat.{◌-◌, ◌≤◌}
-use lib.ListN.{length}
 use Rattle.basics.specs.Over.{join_to}
 use Rattle.basics.proofs.FillLaws.{Filled}
 use Rattle.salvage.specs.Telling.{code_line}
 use Rattle.salvage.proofs.text.put_lines.Given as goal
 
 abbrev pub invariant-loop-i : goal.invariant-loop-i
-invariant-loop-i l = (l.i ≤ length l.list) × Filled l.initial.out l.out (join_to l.i (code_line l.list)) l.at
-
-abbrev pub decreases-loop-i : goal.decreases-loop-i
-decreases-loop-i l = length l.list - l.i
+invariant-loop-i l = Filled l.initial.out l.out (join_to l.i (code_line l.list)) l.at
