@@ -6,8 +6,8 @@ use mathlib.Core.List.{List}
 use lib.ListN.{length}
 use borrow.Author.Tests.{le-leb}
 use Rattle.table.specs.declared.Table.{Table}
-use Rattle.table.specs.declared.Reading.{Reading}
-use Rattle.table.specs.declared.Checked.TheVariants.{Fine}
+use Rattle.table.specs.Answers.{table_from}
+use Rattle.std.specs.Prelude.{Ok}
 use Rattle.table.specs.At.{NoGroup}
 use Rattle.table.specs.Rules.{table_fault}
 use Rattle.table.proofs.GroupLaws.{no_group_is}
@@ -27,13 +27,13 @@ use Rattle.promises.specs.Archives.{Archives}
 
 -- the table of a listing, and that of an archive, has zeros past the nth task already
 listing_clear : (s : List ℕ) (t : Table) → read_listing s ≡ accepted t → cleared t ≡ t
-listing_clear s t e = ap (λ (r : Reading). r.table) (sym (text-back t (listing-passes s t e)) ∙ rewrites s t e)
+listing_clear s t e = ap table_from (sym (text-back t (listing-passes s t e)) ∙ rewrites s t e)
 
 card_clear : (a : List ℕ) (t : Table) → Bytes a → read_archive a ≡ accepted t → cleared t ≡ t
-card_clear a t bytes e = ap (λ (r : Reading). r.table) (sym (reads_back t (passes_check a t e) (reads_none a t e) (reads_ungrouped a t e)) ∙ ap read_archive (writes_again a t bytes e) ∙ e)
+card_clear a t bytes e = ap table_from (sym (reads_back t (passes_check a t e) (reads_none a t e) (reads_ungrouped a t e)) ∙ ap read_archive (writes_again a t bytes e) ∙ e)
 
 -- the output of an archive, where there is room
-archive_written : (t : Table) (out : List ℕ) → table_fault t ≡ Fine → NoGroup t → block_size * t.n ≤ length out → Writes (archive_of t) out (archiving_answer t (length out)) (archiving t out)
+archive_written : (t : Table) (out : List ℕ) → table_fault t ≡ Ok tt → NoGroup t → block_size * t.n ≤ length out → Writes (archive_of t) out (archiving_answer t (length out)) (archiving t out)
 unfolding archiving_fault archiving_answer archiving
 archive_written t out e z h =
     let g = (no_group_is t).1 z in

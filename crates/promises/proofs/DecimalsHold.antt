@@ -11,7 +11,7 @@ use Rattle.promises.specs.Decimals.{Decimals}
 pub decimals_hold : Decimals
 decimals_hold =
     record {
-      entry = λ κs a r x p. p;
+      entry = λ κs a r x p. p.0;
       reads = λ way s v. (λ e. let t = time_states way s v e.0 e.1 in (t.typed, t.states), λ e. (length (first s), states_time way s _ e.1));
       seven = time_seven;
       as_before = time_before;

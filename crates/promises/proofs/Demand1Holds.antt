@@ -1,14 +1,15 @@
 -- Demand 1 holds.
 -- Assumes nothing.
 use Prim.Native.Nat.{ℕ, ◌+◌}
-use mathlib.Core.Path.{◌≡◌, refl, sym}
+use mathlib.Core.Path.{◌≡◌, ◌∙◌, refl, sym, ap}
 use mathlib.Core.Bool.{Bool, true, false}
 use mathlib.Core.List.{List}
 use native.Mathlib.Omega.{arith}
 use lib.ListN.{length}
 use lib.Dec.{leb}
 use Rattle.basics.specs.Choice.{pick}
-use Rattle.put.specs.declared.Put.TheVariants.{Wrote, Short}
+use Rattle.std.specs.Prelude.{Some, None}
+use Rattle.table.specs.Answers.{answer_of}
 use Rattle.page.specs.Pages.{fits_page}
 use base.Logic.{id⊢}
 use Rattle.basics.specs.Over.{join_to}
@@ -16,7 +17,7 @@ use Rattle.table.proofs.Determined.{number_determined, empty_determined}
 use Rattle.rules.proofs.Determined.{first_of_determined, in_range_determined, times_in_range_determined, times_in_order_determined, times_determined, groups_in_range_determined, has_group_determined, all_or_none_determined, alpha_determined, used_in_range_determined, totals_fit_determined, pair_determined, asked_determined}
 use Rattle.checking.proofs.Determined.{check_determined}
 use Rattle.field.proofs.Determined.{time_determined, count_determined, ends_at_determined}
-use Rattle.put.proofs.Determined.{put_time_determined, put_count_determined, put_text_determined, spaced_count_determined, put_length_determined, count_len_determined, time_len_determined}
+use Rattle.put.proofs.Determined.{put_time_determined, put_count_determined, put_text_determined, spaced_count_determined, count_len_determined, time_len_determined}
 use Rattle.put.proofs.PutLaws.{short_is}
 use Rattle.writing.specs.Write.{written}
 use Rattle.line.proofs.Determined.{line_of_determined}
@@ -90,7 +91,7 @@ determines =
       ends_at = ends_at_determined;
       time_len = time_len_determined;
       count_len = count_len_determined;
-      put_length = put_length_determined;
+      put_length = λ T laws d κs a x y r s p q. p ∙ sym q;
       put_text = put_text_determined;
       put_time = put_time_determined;
       put_count = put_count_determined;
@@ -124,7 +125,7 @@ determines =
 -- ---- a refusal changes nothing
 
 -- what was not put, by the test that says whether it is
-not_put : (b : Bool) (n : ℕ) (text out : List ℕ) → pick b (Wrote n) Short ≡ Short → pick b text out ≡ out
+not_put : (b : Bool) (n : ℕ) (text out : List ℕ) → pick b (Some n) None ≡ None → pick b text out ≡ out
 not_put true n text out e = let z : ◌≡◌ {A = ℕ} 0 1 = cc in absurd (omega arith)
 not_put false n text out e = refl
 
@@ -137,9 +138,9 @@ keeps =
       field = λ text out e. (short_is text out (sym e) refl).1;
       place = λ text at out e. not_put (leb (at + length text) (length out)) _ _ out e;
       page = λ p cells out e. not_put (fits_page p out) _ _ out e;
-      table = listing_empty;
+      table = λ s r e. listing_empty s r (ap answer_of e);
       archiving = λ t out r e. rw e;
-      card = archive_empty;
+      card = λ a r e. archive_empty a r (ap answer_of e);
     }
 
 keeps_or_lists : KeepsOrLists

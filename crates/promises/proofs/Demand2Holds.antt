@@ -8,7 +8,7 @@ use borrow.Author.Tests.{le-leb}
 use native.Mathlib.Nat.{le_trans}
 use Rattle.basics.specs.Exactly.{◌exactly_if◌}
 use Rattle.table.specs.declared.Table.{Table}
-use Rattle.table.specs.declared.Checked.TheVariants.{Fine}
+use Rattle.std.specs.Prelude.{Ok}
 use Rattle.table.specs.Rules.{table_fault}
 use Rattle.theory.specs.declared.Verdict.{Verdict}
 use Rattle.theory.specs.declared.Verdict.TheVariants.{Open}
@@ -22,7 +22,7 @@ use Rattle.theory.proofs.WorkLaws.{workload_rises}
 use Rattle.theory.proofs.AllowanceLaws.{open_above, open_count}
 use Rattle.theory.proofs.EndLaws.{Right, meets_if, misses_if}
 use Rattle.theory.proofs.DemandLaws.{demand_start}
-use Rattle.analysis.specs.declared.Answer.TheVariants.{Known}
+use Rattle.std.specs.Prelude.{Ok}
 use Rattle.theory.specs.Tables.{merged_view, counted_by, counted_in}
 use Rattle.analysis.specs.declared.Record.{Record}
 use Rattle.analysis.specs.Answers.{bound_of, analysis_fault, record_by}
@@ -36,7 +36,7 @@ use Rattle.writing.specs.Write.{text_of, write_fault, write_answer, written}
 use Rattle.promises.specs.Words.{Writes}
 use Rattle.promises.specs.Demand2.{demand_in, deadline_in, CountIn, RightVerdict, RightRow, Demand2}
 
-module _ (t : Table) (i allowance : ℕ) (fine : table_fault t ≡ Fine) (h : i < t.n) where
+module _ (t : Table) (i allowance : ℕ) (fine : table_fault t ≡ Ok tt) (h : i < t.n) where
   v : Verdict
   v = (counted_in t allowance (level i)).verdict
 
@@ -62,13 +62,13 @@ module _ (t : Table) (i allowance : ℕ) (fine : table_fault t ≡ Fine) (h : i 
         from_run = λ u e. let l : Least (demand_in t i) (deadline_in t i) u = as_right e in (le_trans (demand_start workload (merged_view t) (level i) u) l.meets, l.high);
       }
 
-verdicts : (t : Table) (i allowance : ℕ) → table_fault t ≡ Fine → i < t.n → 1 ≤ allowance
-    → (r : Counted) × (bound_of t (level i) allowance ≡ Known r) × RightVerdict t i allowance r.verdict
+verdicts : (t : Table) (i allowance : ℕ) → table_fault t ≡ Ok tt → i < t.n → 1 ≤ allowance
+    → (r : Counted) × (bound_of t (level i) allowance ≡ Ok r) × RightVerdict t i allowance r.verdict
 unfolding v
 verdicts t i allowance fine h a = (counted_in t allowance (level i), bound_known t i allowance fine h a, right_verdict t i allowance fine h)
 
 -- the row, where nothing is said against it and the table
-right_row : (t : Table) (allowance : ℕ) (row : List Record) → analysis_fault t allowance (length row) ≡ Fine → RightRow t allowance row
+right_row : (t : Table) (allowance : ℕ) (row : List Record) → analysis_fault t allowance (length row) ≡ Ok tt → RightRow t allowance row
 unfolding record_by
 right_row t allowance row e =
     let f = fits t allowance (length row) e in
@@ -76,13 +76,13 @@ right_row t allowance row e =
     record {
       task = λ i h. ap (λ (r : Record). r.task) (row_record t allowance row i _ (rw w h));
       verdict = λ i h. bound_known t i allowance f.0 h (allowed t allowance (length row) e)
-          ∙ ap (λ (r : Record). Known (record { verdict = r.verdict; rounds = r.rounds })) (sym (row_record t allowance row i _ (rw w h)));
+          ∙ ap (λ (r : Record). Ok (record { verdict = r.verdict; rounds = r.rounds })) (sym (row_record t allowance row i _ (rw w h)));
       past = rw w at (row_past t allowance row);
       long = row_long t allowance row;
     }
 
 -- the output of a listing, where there is room
-text_written : (t : Table) (out : List ℕ) → table_fault t ≡ Fine → length (text_of t) ≤ length out → Writes (text_of t) out (write_answer t (length out)) (written t out)
+text_written : (t : Table) (out : List ℕ) → table_fault t ≡ Ok tt → length (text_of t) ≤ length out → Writes (text_of t) out (write_answer t (length out)) (written t out)
 unfolding write_fault write_answer written
 text_written t out e h = let r = le-leb (length (text_of t)) (length out) h in record { wrote = rw (e, r); output = rw (e, r) }
 

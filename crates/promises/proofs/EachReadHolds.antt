@@ -6,7 +6,7 @@ use mathlib.Core.Bool.{true}
 use lib.Dec.{T, ltb, lit<}
 use Rattle.basics.specs.Over.{sum_to, max_to, all_to, first_to}
 use Rattle.table.specs.declared.Table.{Table}
-use Rattle.table.specs.declared.Checked.TheVariants.{Fine}
+use Rattle.std.specs.Prelude.{Ok}
 use Rattle.table.specs.Faults.{first_fault}
 use Rattle.table.specs.Rules.{times_in_range, times_in_order, times_fault, is_unused, used_in_range, pair_in_range, totals_fit, pair_fault, pairs_fault, alpha_fault, task_fault, last_alpha, tasks_fault, table_fault, groups_in_range, has_group}
 use Rattle.theory.specs.declared.Verdict.TheVariants.{Meets, Misses}
@@ -26,7 +26,7 @@ use Rattle.promises.proofs.NotEmptyHolds.{counted_at, moves_by, lost_by}
 use Rattle.promises.proofs.ReadsLaws.{fine_fitting}
 
 -- of the task at slot i, from its rounds, j in the first table and k in the second
-module _ {a b : Table} (i j k : ℕ) (e : table_fault a ≡ Fine) (f : table_fault b ≡ Fine) where
+module _ {a b : Table} (i j k : ℕ) (e : table_fault a ≡ Ok tt) (f : table_fault b ≡ Ok tt) where
   stays : {u : ℕ} → is_same_test (merged_view a) (merged_view b) (level i) ≡ true → T (ltb i a.n) → T (ltb i b.n)
       → counted_at a i j ≡ record { verdict = Meets u; rounds = j } → counted_at b i k ≡ record { verdict = Meets u; rounds = k } → Stays a b i u
   stays s l m c d = moves_by j k (record { first = e; second = f; related = same_by _ _ (level i) (fine_fitting a e) s }) l m c d

@@ -12,7 +12,7 @@ use Rattle.basics.proofs.SumLaws.{sum_eq, sum_single}
 use Rattle.basics.proofs.MaxLaws.{max_eq, max_single}
 use Rattle.table.specs.declared.Level.{Level}
 use Rattle.table.specs.declared.Table.{Table}
-use Rattle.table.specs.declared.Checked.TheVariants.{Fine}
+use Rattle.std.specs.Prelude.{Ok}
 use Rattle.table.specs.Limits.{max_resources}
 use Rattle.table.specs.Empty.{empty_task, empty_table}
 use Rattle.table.specs.At.{task_at, alpha_at, group_at, pair_at, total_of}
@@ -47,7 +47,7 @@ use Rattle.promises.proofs.AlphaLaws.{wait_same}
 
 -- ---- a group of one resource
 
-of_one : (t : Table) (i k : ℕ) → table_fault t ≡ Fine → i < t.n → k < max_resources → ((j : ℕ) → j < max_resources → group_at t j ≡ group_at t k → j ≡ k)
+of_one : (t : Table) (i k : ℕ) → table_fault t ≡ Ok tt → i < t.n → k < max_resources → ((j : ℕ) → j < max_resources → group_at t j ≡ group_at t k → j ≡ k)
     → pair_at (merged t) i k ≡ pair_at t i k
 of_one t i k e h q single = go (ℕ_discrete (group_at t k) 0)
   where
@@ -76,7 +76,7 @@ of_one t i k e h q single = go (ℕ_discrete (group_at t k) 0)
 
 -- ---- who is together
 
-module _ (a b : Table) (e : table_fault a ≡ Fine) (f : table_fault b ≡ Fine) (s : SameTogether a b) where
+module _ (a b : Table) (e : table_fault a ≡ Ok tt) (f : table_fault b ≡ Ok tt) (s : SameTogether a b) where
   alike : (l : ℕ) → l < a.n → AlikeTask (task_at a l) (task_at b l)
   alike l h =
       let x = s.rest.tasks l h in

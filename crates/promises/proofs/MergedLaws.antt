@@ -19,7 +19,7 @@ use Rattle.table.specs.declared.Level.{Level}
 use Rattle.table.specs.declared.Pair.{Pair}
 use Rattle.table.specs.declared.Task.{Task}
 use Rattle.table.specs.declared.Table.{Table}
-use Rattle.table.specs.declared.Checked.TheVariants.{Fine}
+use Rattle.std.specs.Prelude.{Ok}
 use Rattle.table.specs.Limits.{max_tasks, max_resources}
 use Rattle.table.specs.Empty.{unused_pair}
 use Rattle.table.specs.At.{task_at, group_at, pair_of, pair_at, total_of, NoGroup}
@@ -47,7 +47,7 @@ pair_test : (p : Pair) → (p ≡ unused_pair) ⊎ GoodPair p → ltb 0 p.reques
 pair_test p (inl e) = rw e
 pair_test p (inr g) = lt-ltb 0 _ g.requests_least ∙ sym (lt-ltb 0 _ (le_trans g.longest_least g.longest_total))
 
-module _ (t : Table) (e : table_fault t ≡ Fine) where
+module _ (t : Table) (e : table_fault t ≡ Ok tt) where
   a : Accepted t
   a = fine_accepted t e
 
@@ -158,7 +158,7 @@ slots_equal a b same = slots_together a b (λ j k h l. rw (same j h, same k l))
 
 -- ---- no easier as typed, so no easier by the merged pairs
 
-module _ (a b : Table) (e : table_fault a ≡ Fine) (f : table_fault b ≡ Fine) (same : EqualGroups a b) (w : NoEasier (view_of a) (view_of b)) where
+module _ (a b : Table) (e : table_fault a ≡ Ok tt) (f : table_fault b ≡ Ok tt) (same : EqualGroups a b) (w : NoEasier (view_of a) (view_of b)) where
   in_second : (l : ℕ) → l < a.n → l < b.n
   in_second l h = le_trans h w.n
 

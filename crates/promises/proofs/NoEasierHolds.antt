@@ -6,7 +6,7 @@ use native.Mathlib.Nat.{le_of_eq}
 use native.Mathlib.Omega.{arith}
 use Rattle.basics.proofs.SumLaws.{sum_eq}
 use Rattle.table.specs.declared.Table.{Table}
-use Rattle.table.specs.declared.Checked.TheVariants.{Fine}
+use Rattle.std.specs.Prelude.{Ok}
 use Rattle.table.specs.Limits.{max_resources}
 use Rattle.table.specs.Rules.{table_fault}
 use Rattle.theory.specs.View.{View}
@@ -22,7 +22,7 @@ use Rattle.promises.specs.NotEmpty.{holding, holding_longer}
 use Rattle.promises.proofs.NoEasierLaws.{Fits, no_easier_keeps}
 use Rattle.promises.proofs.NotEmptyHolds.{two_tasks, falls}
 
-fine_fits : (t : Table) → table_fault t ≡ Fine → Fits (merged_view t)
+fine_fits : (t : Table) → table_fault t ≡ Ok tt → Fits (merged_view t)
 unfolding all_CT
 fine_fits t e =
     let a = merged_bounds t e in

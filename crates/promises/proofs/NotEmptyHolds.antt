@@ -6,7 +6,7 @@ use mathlib.Core.Bool.{true}
 use lib.Dec.{T, ltb, lit<}
 use Rattle.basics.specs.Over.{sum_to, max_to, all_to, first_to}
 use Rattle.table.specs.declared.Table.{Table}
-use Rattle.table.specs.declared.Checked.TheVariants.{Fine}
+use Rattle.std.specs.Prelude.{Ok}
 use Rattle.table.specs.Empty.{empty_task, empty_table}
 use Rattle.table.specs.Faults.{first_fault}
 use Rattle.table.specs.Rules.{times_in_range, times_in_order, times_fault, is_unused, used_in_range, pair_in_range, totals_fit, pair_fault, pairs_fault, alpha_fault, task_fault, last_alpha, tasks_fault, table_fault, groups_in_range, has_group}
@@ -39,7 +39,7 @@ abbrev pub counted_at : Table → ℕ → ℕ → Counted
 counted_at t i k = counted_from (demand_in t i) (deadline_in t i) k (run_in t i)
 
 -- a verdict after k rounds
-after : (t : Table) (i k : ℕ) {v : Verdict} → table_fault t ≡ Fine → T (ltb i t.n) → counted_at t i k ≡ record { verdict = v; rounds = k } → Right (demand_in t i) (deadline_in t i) v
+after : (t : Table) (i k : ℕ) {v : Verdict} → table_fault t ≡ Ok tt → T (ltb i t.n) → counted_at t i k ≡ record { verdict = v; rounds = k } → Right (demand_in t i) (deadline_in t i) v
 after t i k e h c = by_rounds workload workload_rises (merged t) i (merged_bounds t e) (lit< h) k c
 
 -- a bound after j rounds goes to one after k, or to a miss, in tables that are related in whatever way
@@ -51,14 +51,14 @@ module _ {R : View → View → Type 0} {a b : Table} {i : ℕ} (j k : ℕ) (r :
   lost_by c d = record { related = r; before = after a i j r.first h c; after = after b i k r.second h' d }
 
 module _ {rest run free : ℕ → ℕ → Type 0} (p : Tested rest) (q : Tested run) (r : Tested free) {a b : Table} where
-  pub related_by : table_fault a ≡ Fine → table_fault b ≡ Fine → is_compared p q r (merged_view a) (merged_view b) ≡ true → Related (Compared rest run free) a b
+  pub related_by : table_fault a ≡ Ok tt → table_fault b ≡ Ok tt → is_compared p q r (merged_view a) (merged_view b) ≡ true → Related (Compared rest run free) a b
   related_by e f h = record { first = e; second = f; related = compared_by p q r _ _ h }
 
-  moves : {i u w : ℕ} (j k : ℕ) → table_fault a ≡ Fine → table_fault b ≡ Fine → is_compared p q r (merged_view a) (merged_view b) ≡ true → T (ltb i a.n) → T (ltb i b.n)
+  moves : {i u w : ℕ} (j k : ℕ) → table_fault a ≡ Ok tt → table_fault b ≡ Ok tt → is_compared p q r (merged_view a) (merged_view b) ≡ true → T (ltb i a.n) → T (ltb i b.n)
       → counted_at a i j ≡ record { verdict = Meets u; rounds = j } → counted_at b i k ≡ record { verdict = Meets w; rounds = k } → Moves (Compared rest run free) a b i u w
   moves j k e f h l m c d = moves_by j k (related_by e f h) l m c d
 
-  lost : {i u : ℕ} (j k : ℕ) → table_fault a ≡ Fine → table_fault b ≡ Fine → is_compared p q r (merged_view a) (merged_view b) ≡ true → T (ltb i a.n) → T (ltb i b.n)
+  lost : {i u : ℕ} (j k : ℕ) → table_fault a ≡ Ok tt → table_fault b ≡ Ok tt → is_compared p q r (merged_view a) (merged_view b) ≡ true → T (ltb i a.n) → T (ltb i b.n)
       → counted_at a i j ≡ record { verdict = Meets u; rounds = j } → counted_at b i k ≡ record { verdict = Misses; rounds = k } → Lost (Compared rest run free) a b i u
   lost j k e f h l m c d = lost_by j k (related_by e f h) l m c d
 

@@ -11,7 +11,7 @@ use Rattle.basics.specs.Choice.{pick}
 use Rattle.basics.specs.Exactly.{◌exactly_if◌}
 use Rattle.table.specs.declared.Level.{Level}
 use Rattle.table.specs.declared.Table.{Table}
-use Rattle.table.specs.declared.Checked.TheVariants.{Fine}
+use Rattle.std.specs.Prelude.{Ok}
 use Rattle.table.specs.Rules.{table_fault}
 use Rattle.theory.specs.declared.Verdict.{Verdict}
 use Rattle.theory.specs.declared.Verdict.TheVariants.{Meets, Misses}
@@ -21,7 +21,7 @@ use Rattle.theory.specs.Demand.{units_read}
 use Rattle.theory.specs.Bound.{Least, None}
 use Rattle.theory.specs.Rounds.{counted_from}
 use Rattle.theory.specs.Tables.{merged_view, counted_by, counted_in}
-use Rattle.analysis.specs.declared.Answer.TheVariants.{Known}
+use Rattle.std.specs.Prelude.{Ok}
 use Rattle.analysis.specs.Answers.{bound_fault, or_answer, bound_of}
 use Rattle.page.specs.Report.{report_allowance}
 use Rattle.promises.specs.Demand2.{demand_in, deadline_in}
@@ -47,20 +47,20 @@ same a b i r h allowance =
     let demand = demand_same (merged_view a) (merged_view b) (fine_fitting a r.first) (level i) q in
     let counted : counted_in b allowance (level i) ≡ counted_in a allowance (level i) = λ x. counted_from (λ t. demand t x) (q deadline x) allowance (q run x) in
     let fault : bound_fault b (level i) allowance ≡ bound_fault a (level i) allowance = rw (r.first, r.second, q tasks) in
-    ap₂ (λ c k. or_answer c (Known k)) fault counted
+    ap₂ (λ c k. or_answer c (Ok k)) fault counted
 
 printed : (columns : Columns) (s s' : List ℕ) (a b : Table) (allowance i : ℕ) (row row' : ℕ → Counted) → PrintsRows columns allowance s a row → PrintsRows columns allowance s' b row' → i < a.n
     → Related (λ v w. SameRead v w (level i)) a b → row' i ≡ row i
 unfolding AgreeOn
 printed columns s s' a b allowance i row row' p q h r =
-    let e : Known (row' i) ≡ Known (row i) = sym (q.answer i (omega (arith, r.related tasks))) ∙ same a b i r h allowance ∙ p.answer i h in
+    let e : Ok (row' i) ≡ Ok (row i) = sym (q.answer i (omega (arith, r.related tasks))) ∙ same a b i r h allowance ∙ p.answer i h in
     cc
 
 run_below : (j : Level) → SameAnswers (λ v w i. NotReached i j × OnlyRun j v w)
 run_below j a b i r h =
     same a b i (record { first = r.first; second = r.second; related = same_above j (merged_view a) (merged_view b) r.related.1 i h r.related.0 }) h
 
-reads_units : (t : Table) (i l : ℕ) → table_fault t ≡ Fine → l < t.n
+reads_units : (t : Table) (i l : ℕ) → table_fault t ≡ Ok tt → l < t.n
     → Reads (merged_view t) (level i) (level l) exactly_if (1 ≤ units_read (merged_view t) (level i) (level l))
 reads_units t i l e h = (read_units (merged_view t) (fine_fitting t e) (level i) l h, units_read_lem (merged_view t) (fine_fitting t e) (level i) l h)
 
@@ -76,27 +76,27 @@ read_in_both a b i l r h =
 -- ---- that no kind can be left out
 
 -- what is known of a task's bound is what `bound` answers under the allowance of `report`
-module _ (t : Table) (i : ℕ) (e : table_fault t ≡ Fine) (h : i < t.n) where
-  answers : (v : Verdict) → (demand2.verdicts t i report_allowance e h some_allowed).0.verdict ≡ v → (n : ℕ) × (bound_of t (level i) report_allowance ≡ Known (record { verdict = v; rounds = n }))
+module _ (t : Table) (i : ℕ) (e : table_fault t ≡ Ok tt) (h : i < t.n) where
+  answers : (v : Verdict) → (demand2.verdicts t i report_allowance e h some_allowed).0.verdict ≡ v → (n : ℕ) × (bound_of t (level i) report_allowance ≡ Ok (record { verdict = v; rounds = n }))
   answers v q =
       let d = demand2.verdicts t i report_allowance e h some_allowed in
-      (d.0.rounds, d.1 ∙ ap (λ (w : Verdict). Known (record { verdict = w; rounds = d.0.rounds })) q)
+      (d.0.rounds, d.1 ∙ ap (λ (w : Verdict). Ok (record { verdict = w; rounds = d.0.rounds })) q)
 
-  meets : (u : ℕ) → Least (demand_in t i) (deadline_in t i) u → (n : ℕ) × (bound_of t (level i) report_allowance ≡ Known (record { verdict = Meets u; rounds = n }))
+  meets : (u : ℕ) → Least (demand_in t i) (deadline_in t i) u → (n : ℕ) × (bound_of t (level i) report_allowance ≡ Ok (record { verdict = Meets u; rounds = n }))
   meets u l =
       let d = demand2.verdicts t i report_allowance e h some_allowed in
       answers (Meets u) ((d.2.meets (rounds_hold.never_open t i d.0 d.1) u).1 l)
 
-  misses : None (demand_in t i) (deadline_in t i) → (n : ℕ) × (bound_of t (level i) report_allowance ≡ Known (record { verdict = Misses; rounds = n }))
+  misses : None (demand_in t i) (deadline_in t i) → (n : ℕ) × (bound_of t (level i) report_allowance ≡ Ok (record { verdict = Misses; rounds = n }))
   misses l =
       let d = demand2.verdicts t i report_allowance e h some_allowed in
       answers Misses ((d.2.misses (rounds_hold.never_open t i d.0 d.1)).1 l)
 
 -- one answer has one verdict
-one_verdict : (t t' : Table) (i : ℕ) {v v' : Verdict} {n n' : ℕ} → bound_of t (level i) report_allowance ≡ Known (record { verdict = v; rounds = n })
-    → bound_of t' (level i) report_allowance ≡ Known (record { verdict = v'; rounds = n' }) → bound_of t' (level i) report_allowance ≡ bound_of t (level i) report_allowance → v' ≡ v
+one_verdict : (t t' : Table) (i : ℕ) {v v' : Verdict} {n n' : ℕ} → bound_of t (level i) report_allowance ≡ Ok (record { verdict = v; rounds = n })
+    → bound_of t' (level i) report_allowance ≡ Ok (record { verdict = v'; rounds = n' }) → bound_of t' (level i) report_allowance ≡ bound_of t (level i) report_allowance → v' ≡ v
 one_verdict t t' i {v} {v'} {n} {n'} x y e =
-    let known : Known (record { verdict = v'; rounds = n' }) ≡ Known (record { verdict = v; rounds = n }) = sym y ∙ e ∙ x in
+    let known : Ok (record { verdict = v'; rounds = n' }) ≡ Ok (record { verdict = v; rounds = n }) = sym y ∙ e ∙ x in
     let counted : ◌≡◌ {A = Counted} (record { verdict = v'; rounds = n' }) (record { verdict = v; rounds = n }) = cc in
     ap (λ (r : Counted). r.verdict) counted
 

@@ -12,7 +12,7 @@ use Rattle.basics.proofs.SumLaws.{sum_part, sum_found}
 use Rattle.table.specs.declared.Level.{Level}
 use Rattle.table.specs.declared.Resource.{Resource}
 use Rattle.table.specs.declared.Table.{Table}
-use Rattle.table.specs.declared.Checked.TheVariants.{Fine}
+use Rattle.std.specs.Prelude.{Ok}
 use Rattle.table.specs.Limits.{max_resources}
 use Rattle.table.specs.Rules.{table_fault}
 use Rattle.theory.specs.View.{View, level, resource, is_above, over_resources, uses, ceiling}
@@ -30,7 +30,7 @@ pub record Fitting (v : View) : Type 0 where
   pub counts : EachPair v (λ l k. uses v l k ≡ true → 1 ≤ v.CT l k)
   pub runs : EachTask v (λ l. 1 ≤ v.C l)
 
-pub fine_fitting : (t : Table) → table_fault t ≡ Fine → Fitting (merged_view t)
+pub fine_fitting : (t : Table) → table_fault t ≡ Ok tt → Fitting (merged_view t)
 fine_fitting t e =
     record {
       used = λ l k h r c. used_test t e l k h r ∙ lt-ltb 0 _ c;

@@ -2,7 +2,7 @@
 -- Assumes nothing.
 use Prim.Native.Nat.{ℕ, ◌*◌, ◌<◌}
 use mathlib.Core.Path.{◌≡◌, refl, sym, ap, ◌∙◌}
-use mathlib.Core.Bool.{Bool, true, false, not}
+use mathlib.Core.Bool.{false, not}
 use mathlib.Core.Logic.{◌⊎◌, inl, inr}
 use native.Mathlib.Decide.{dec_lt}
 use native.Mathlib.Omega.{arith}
@@ -10,18 +10,17 @@ use borrow.Author.Tests.{leb-true, le-leb, lt-leb}
 use Rattle.basics.specs.Exactly.{◌exactly_if◌}
 use lib.ListN.{length}
 use lib.Dec.{leb}
-use Rattle.basics.specs.Choice.{within, pick}
+use Rattle.basics.specs.Choice.{within}
 use Rattle.basics.proofs.ChoiceLaws.{within_low, within_high}
 use Rattle.table.specs.declared.Level.{Level}
 use Rattle.table.specs.declared.Table.{Table}
 use Rattle.table.specs.declared.Fault.TheVariants.{UnknownTask, TooShort, NoRounds, HasGroup}
-use Rattle.table.specs.declared.Checked.{Checked}
-use Rattle.table.specs.declared.Checked.TheVariants.{Fine, Refused}
-use Rattle.table.specs.declared.Written.TheVariants.{NotWritten}
+use Rattle.table.specs.Faults.{Checked}
+use Rattle.std.specs.Prelude.{Option, Result, Ok, Err}
 use Rattle.table.specs.declared.Refusal.{Refusal}
-use Rattle.table.specs.Faults.{Told, Refuses, ◌then◌, unless}
-use Rattle.table.specs.Answers.{or_wrote}
-use Rattle.table.specs.Rules.{has_group, has_alpha, table_fault}
+use Rattle.table.specs.Faults.{Refuses, ◌then◌, unless}
+use Rattle.table.specs.Answers.{or_table, or_wrote}
+use Rattle.table.specs.Rules.{has_group, table_fault}
 use Rattle.table.specs.Refusals.{CallsFor}
 use Rattle.table.proofs.Deciding.{one_number, is_rule, from_rule, from_two, by_first, fails}
 use Rattle.table.proofs.RuleFacts.{range_is}
@@ -36,13 +35,11 @@ use Rattle.card.specs.Archive.{archiving_fault, archiving_answer}
 use Rattle.release.proofs.Called.{refused_as_called as archive-refused}
 use Rattle.salvaging.specs.Salvage.{salvage_fault, salvage_answer}
 use Rattle.recovery.proofs.Called.{salvaged_as_called}
-use Rattle.theory.specs.declared.Counted.{Counted}
-use Rattle.analysis.specs.declared.Answer.TheVariants.{Known, Unknown}
+use Rattle.theory.specs.Merge.{merged}
+use Rattle.theory.specs.Tables.{counted_in}
 use Rattle.analysis.specs.Answers.{bound_fault, bound_of, or_answer, analysis_fault}
-use Rattle.waits.specs.declared.Waiting.TheVariants.{For, NoAlpha, Unknown as UnknownWait}
-use Rattle.waits.specs.Answers.{wait_in, wait_fault, or_waiting, wait_answer, waits_after, all_waits}
-use Rattle.merging.proofs.ReadLaws.{read_own}
-use Rattle.promises.specs.Refusals.{BoundCallsFor, WaitCallsFor, RowCallsFor, OutputCallsFor, ArchivingCallsFor, NotKnown, NotWaiting, NotWrote, FirstDecides}
+use Rattle.waits.specs.Answers.{wait_fault, or_waiting, wait_answer, waits_after, all_waits}
+use Rattle.promises.specs.Refusals.{BoundCallsFor, WaitCallsFor, RowCallsFor, OutputCallsFor, ArchivingCallsFor, FirstDecides}
 
 module _ (t : Table) {k p : ℕ} where
   called : Refuses (table_fault t) k p → CallsFor t k p
@@ -96,15 +93,6 @@ module _ (t : Table) (i : Level) where
   unfolding wait_fault
   wait_given (WaitCallsFor.own x) = by_first (table_fault t) _ _ _ (given t x)
   wait_given (WaitCallsFor.unknown_task a h) = rw (accepted_fine t a) (is_rule _ UnknownTask 0 (outside_fails t.n i.0 h))
-
--- of all waits the answer is the check's
-waits_checked : (t : Table) → (all_waits t).answer ≡ table_fault t
-unfolding all_waits
-waits_checked t = go (table_fault t)
-  where
-    go : (c : Checked) → (waits_after c t).answer ≡ c
-    go Fine = refl
-    go (Refused r) = refl
 
 -- ---- a row
 
@@ -162,33 +150,29 @@ module _ (t : Table) (room : ℕ) where
 
 -- ---- from a check to what is answered by it
 
--- of an answer that is made of a check, and is `says r` where the check refuses with r and only there
-answer_is : {A : Type 0} (says : Refusal → A) (made : Checked → A) → ((q r : Refusal) → says q ≡ says r → q ≡ r) → ((r : Refusal) → made (Refused r) ≡ says r)
-    → ((r : Refusal) → made Fine ≡ says r → ⊥) → (c : Checked) (k p : ℕ) → ((r : Refusal) × (made c ≡ says r) × Told r k p) exactly_if Refuses c k p
-answer_is says made same is never Fine k p = (λ x. absurd (never x.0 x.1), λ x. let z : ◌≡◌ {A = ℕ} 0 1 = cc x.1 in absurd (omega arith))
-answer_is says made same is never (Refused q) k p =
-    (λ x. (x.0, ap Refused (same q x.0 (sym (is q) ∙ x.1)), x.2), λ x. let e : q ≡ x.0 = cc x.1 in (x.0, is q ∙ ap says e, x.2))
+-- of an answer that is made of a check, and refuses with r where the check does and only there
+refuses_as : {A : Type 0} (made : Checked → Result A Refusal) → ((r : Refusal) → made (Err r) ≡ Err r) → ((r : Refusal) → made (Ok tt) ≡ Err r → ⊥)
+    → (c : Checked) (k p : ℕ) → Refuses (made c) k p exactly_if Refuses c k p
+refuses_as made is never (Ok _) k p = (λ x. absurd (never x.0 x.1), λ x. let z : ◌≡◌ {A = ℕ} 0 1 = cc x.1 in absurd (omega arith))
+refuses_as made is never (Err q) k p =
+    (λ x. (x.0, (let e : q ≡ x.0 = cc (sym (is q) ∙ x.1) in ap Err e), x.2), λ x. let e : q ≡ x.0 = cc x.1 in (x.0, is q ∙ ap Err e, x.2))
 
-unknown_is : (b : Counted) (c : Checked) (k p : ℕ) → NotKnown (or_answer c (Known b)) k p exactly_if Refuses c k p
-unknown_is b = answer_is Unknown (λ c. or_answer c (Known b)) (λ q r e. cc) (λ r. refl) (λ r e. let z : ◌≡◌ {A = ℕ} 0 1 = cc in omega arith)
+-- one that gives something where nothing is refused
+given_is : {A : Type 0} (a : A) (r : Refusal) → Ok a ≡ Err r → ⊥
+given_is a r e = let z : ◌≡◌ {A = ℕ} 0 1 = cc in omega arith
 
--- a wait that is answered, For or NoAlpha, is not a refusal
-not_waiting_is : (b : Bool) (w : ℕ) (c : Checked) (k p : ℕ) → NotWaiting (or_waiting c (pick b (For w) NoAlpha)) k p exactly_if Refuses c k p
-not_waiting_is b w = answer_is UnknownWait (λ c. or_waiting c (pick b (For w) NoAlpha)) (λ q r e. cc) (λ r. refl) (never b)
-  where
-    never : (b : Bool) (r : Refusal) → pick b (For w) NoAlpha ≡ UnknownWait r → ⊥
-    never true r e = let z : ◌≡◌ {A = ℕ} 0 1 = cc in omega arith
-    never false r e = let z : ◌≡◌ {A = ℕ} 0 1 = cc in omega arith
+written_as : (n : ℕ) (c : Checked) (k p : ℕ) → Refuses (or_wrote c n) k p exactly_if Refuses c k p
+written_as n = refuses_as (λ c. or_wrote c n) (λ r. refl) (given_is n)
 
-not_written_is : (n : ℕ) (c : Checked) (k p : ℕ) → NotWrote (or_wrote c n) k p exactly_if Refuses c k p
-not_written_is n = answer_is NotWritten (λ c. or_wrote c n) (λ q r e. cc) (λ r. refl) (λ r e. let z : ◌≡◌ {A = ℕ} 0 1 = cc in omega arith)
+waited_as : (w : Option ℕ) (c : Checked) (k p : ℕ) → Refuses (or_waiting c w) k p exactly_if Refuses c k p
+waited_as w = refuses_as (λ c. or_waiting c w) (λ r. refl) (given_is w)
 
 -- one after the other
 both : {P Q R : Type 0} → P exactly_if Q → Q exactly_if R → P exactly_if R
 both f g = (λ x. g.0 (f.0 x), λ x. f.1 (g.1 x))
 
 pub first_decides : FirstDecides
-unfolding write_fault write_answer archiving_fault archiving_answer bound_of wait_answer salvage_answer
+unfolding write_fault write_answer archiving_fault archiving_answer bound_of wait_answer all_waits salvage_answer
 first_decides =
     record {
       numbers = one_number;
@@ -196,12 +180,12 @@ first_decides =
       listing = listing-refused;
       card = archive-refused;
       salvage = salvaged_as_called;
-      salvage_written = λ s entries room k p. both (not_written_is _ (salvage_fault s entries room) k p) (salvaged_as_called.refused s entries room k p);
-      merge = λ t k p. rw (read_own t refl) (table-refused.refused t k p);
-      bound = λ t i allowance k p. both (unknown_is _ (bound_fault t i allowance) k p) (bound_called t i allowance k p, bound_given t i allowance);
-      wait = λ t i k p. both (not_waiting_is (has_alpha t 0) (wait_in t i) (wait_fault t i) k p) (wait_called t i k p, wait_given t i);
-      waits = λ t k p. rw waits_checked (table-refused.refused t k p);
+      salvage_written = λ s entries room k p. both (written_as _ (salvage_fault s entries room) k p) (salvaged_as_called.refused s entries room k p);
+      merge = λ t k p. both (refuses_as (λ c. or_table c (merged t)) (λ r. refl) (given_is _) (table_fault t) k p) (table-refused.refused t k p);
+      bound = λ t i allowance k p. both (refuses_as (λ c. or_answer c (Ok (counted_in t allowance i))) (λ r. refl) (given_is _) (bound_fault t i allowance) k p) (bound_called t i allowance k p, bound_given t i allowance);
+      wait = λ t i k p. both (waited_as _ (wait_fault t i) k p) (wait_called t i k p, wait_given t i);
+      waits = λ t k p. both (refuses_as (λ c. waits_after c t) (λ r. refl) (given_is _) (table_fault t) k p) (table-refused.refused t k p);
       row = λ t allowance room k p. (row_called t allowance room k p, row_given t allowance room);
-      output = λ t room k p. both (not_written_is _ (write_fault t room) k p) (output_called t (length (text_of t)) room k p, output_given t (length (text_of t)) room);
-      archiving = λ t room k p. both (not_written_is _ (archiving_fault t room) k p) (archiving_called t room k p, archiving_given t room);
+      output = λ t room k p. both (written_as _ (write_fault t room) k p) (output_called t (length (text_of t)) room k p, output_given t (length (text_of t)) room);
+      archiving = λ t room k p. both (written_as _ (archiving_fault t room) k p) (archiving_called t room k p, archiving_given t room);
     }

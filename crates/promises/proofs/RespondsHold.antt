@@ -12,7 +12,7 @@ use lib.ListN.{get_or}
 use Rattle.basics.specs.Over.{sum_to, all_to}
 use Rattle.basics.specs.Text.{bytes}
 use Rattle.table.specs.declared.Table.{Table}
-use Rattle.table.specs.declared.Checked.TheVariants.{Fine}
+use Rattle.std.specs.Prelude.{Ok}
 use Rattle.table.specs.Empty.{empty_task, empty_table}
 use Rattle.table.specs.Answers.{accepted}
 use Rattle.table.specs.Faults.{first_fault}
@@ -40,7 +40,7 @@ use Rattle.schedules.specs.Shown.{shown_table, shown_bounds, miss_table, miss_pi
 use Rattle.schedules.proofs.TheoremHolds.{theorem1_holds}
 use Rattle.schedules.proofs.ShownHolds.{shown_holds}
 use Rattle.schedules.proofs.MissHolds.{miss_holds}
-use Rattle.analysis.specs.declared.Answer.TheVariants.{Known}
+use Rattle.std.specs.Prelude.{Ok}
 use Rattle.analysis.specs.Answers.{bound_of}
 use Rattle.analysis.proofs.ByRounds.{rounds_right, known}
 use Rattle.page.specs.declared.Columns.{Columns}
@@ -57,7 +57,7 @@ no_requests : (N total : ℕ) → (1 ≤ total → ltb 0 N ≡ true) → N ≡ 0
 no_requests N zero u z = refl
 no_requests N (suc x) u z = absurd (omega (arith, ltb-true 0 N (u (omega arith))))
 
-fine_constrained : (t : Table) → table_fault t ≡ Fine → Constrained (merged_view t)
+fine_constrained : (t : Table) → table_fault t ≡ Ok tt → Constrained (merged_view t)
 unfolding all_CT
 fine_constrained t e =
     let a = merged_bounds t e in
@@ -71,7 +71,7 @@ fine_constrained t e =
     }
 
 -- what `bound` answers with `meets` is the least length that covers its demand
-met_least : (t : Table) (i allowance : ℕ) (r : Counted) (u : ℕ) → bound_of t (level i) allowance ≡ Known r → r.verdict ≡ Meets u → Least (demand_in t i) (deadline_in t i) u
+met_least : (t : Table) (i allowance : ℕ) (r : Counted) (u : ℕ) → bound_of t (level i) allowance ≡ Ok r → r.verdict ≡ Meets u → Least (demand_in t i) (deadline_in t i) u
 unfolding counted_by
 met_least t i allowance r u e m =
     let k = known t i allowance e in
@@ -79,13 +79,13 @@ met_least t i allowance r u e m =
     rw v at (rounds_right workload workload_rises (merged t) i (merged_bounds t k.0) k.1 allowance)
 
 -- a set of tasks that read no others is closed
-reads_closed : (t : Table) → table_fault t ≡ Fine → (X : ℕ → Type 0) → ReadNoOther t X → Closed (merged_view t) X
+reads_closed : (t : Table) → table_fault t ≡ Ok tt → (X : ℕ → Type 0) → ReadNoOther t X → Closed (merged_view t) X
 reads_closed t fine X c i l h x k u = c i l h x k (units_read_lem (merged_view t) (fine_fitting t fine) (level i) l k u)
 
 others_meet : (columns : Columns) (allowance : ℕ) (s : List ℕ) (t : Table) (row : ℕ → Counted) (X : ℕ → Type 0) (micros : ℕ → ℕ) → PrintsRows columns allowance s t row
     → ReadNoOther t X → RowsMeet t row X micros → NoJobLonger t X micros
 others_meet columns allowance s t row X micros p c m k pos J o S E r i h x =
-    let fine : table_fault t ≡ Fine = (known t i allowance (p.answer i h)).0 in
+    let fine : table_fault t ≡ Ok tt = (known t i allowance (p.answer i h)).0 in
     let least : (i : ℕ) → i < t.n → X i → Least (demand_in t i) (deadline_in t i) (micros i) = λ i h x. met_least t i allowance (row i) (micros i) (p.answer i h) (m i h x) in
     theorem1_holds.bounds (merged_view t) (fine_constrained t fine) X (reads_closed t fine X c) micros
     (record { low = λ i h x. (least i h x).low; high = λ i h x. (least i h x).high; covers = λ i h x. (least i h x).meets }) k pos J o S E r i h x

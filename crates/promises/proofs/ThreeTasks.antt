@@ -9,7 +9,7 @@ use lib.Dec.{T, leb, leb→le}
 use Rattle.basics.specs.Over.{join_to}
 use Rattle.basics.specs.Text.{bytes}
 use Rattle.table.specs.declared.Table.{Table}
-use Rattle.table.specs.declared.Checked.TheVariants.{Fine}
+use Rattle.std.specs.Prelude.{Ok}
 use Rattle.listing.specs.Read.{read_listing}
 use Rattle.theory.specs.declared.Verdict.TheVariants.{Meets, Misses}
 use Rattle.theory.specs.declared.Counted.{Counted}
@@ -20,16 +20,18 @@ use Rattle.page.specs.declared.Columns.{Columns}
 use Rattle.page.specs.Report.{report_allowance, header, row_text, more_of, page_text, report_text}
 use Rattle.promises.specs.Words.{read_table}
 use Rattle.promises.proofs.ReportLaws.{report_accepted}
+use Rattle.table.specs.Answers.{answer_of}
+use Rattle.table.proofs.Chain.{given_is}
 
 abbrev row : Columns → Table → ℕ → Counted → List ℕ
 row columns t i r = row_text (suc i) r.verdict r.rounds (more_of columns t i)
 
-pub three : (columns : Columns) (allowance : ℕ) (s : String) (a b c : Counted) → 1 ≤ allowance → (read_listing (bytes s)).answer ≡ Fine → (read_table s).n ≡ 3
+pub three : (columns : Columns) (allowance : ℕ) (s : String) (a b c : Counted) → 1 ≤ allowance → answer_of (read_listing (bytes s)) ≡ Ok tt → (read_table s).n ≡ 3
     → counted_in (read_table s) allowance (level 0) ≡ a → counted_in (read_table s) allowance (level 1) ≡ b → counted_in (read_table s) allowance (level 2) ≡ c
     → let w = row columns (read_table s) in report_text columns allowance (bytes s) ≡ header columns ++ ((w 0 a ++ w 1 b) ++ w 2 c)
 unfolding page_text join_to
 three columns allowance s a b c h e n p q r =
-    report_accepted columns allowance (bytes s) (read_table s) h (λ j. record { answer = e j; table = read_table s })
+    report_accepted columns allowance (bytes s) (read_table s) h (given_is (read_listing (bytes s)) e)
     ∙ rw (n, p, q, r)
 
 -- a bound, or a miss, after k rounds

@@ -17,7 +17,7 @@ use Rattle.basics.proofs.ChoiceLaws.{within_in}
 use Rattle.basics.proofs.RowLaws.{row_at}
 use Rattle.basics.proofs.LargestLaws.{largest_agrees}
 use Rattle.table.specs.declared.Table.{Table}
-use Rattle.table.specs.declared.Checked.TheVariants.{Fine}
+use Rattle.std.specs.Prelude.{Some, None, Ok}
 use Rattle.table.specs.Limits.{max_tasks}
 use Rattle.table.specs.At.{alpha_at, NoAlpha}
 use Rattle.table.specs.Rules.{has_alpha, table_fault}
@@ -33,7 +33,7 @@ use Rattle.theory.specs.Tables.{merged_view, counted_in}
 use Rattle.meaning.proofs.Meaning.{passes_check}
 use Rattle.analysis.specs.Answers.{bound_of}
 use Rattle.analysis.proofs.ByRounds.{bound_known}
-use Rattle.waits.specs.Answers.{wait_fault, wait_answer, slot_wait, wait_in, all_waits}
+use Rattle.waits.specs.Answers.{wait_fault, wait_answer, slot_wait, waits_of, wait_in, all_waits}
 use Rattle.page.specs.declared.Columns.TheVariants.{Five}
 use Rattle.page.specs.Report.{report_allowance, wait_text}
 use Rattle.promises.specs.Waits.{HaveAlpha, PrintsWaits, AnswersWaits, Waits}
@@ -50,7 +50,7 @@ has t h a = lt-ltb 0 (alpha_at t 0) (a 0 h)
 has_none : (t : Table) → 1 ≤ t.n → NoAlpha t → has_alpha t 0 ≡ false
 has_none t h z = le-ltb 0 (alpha_at t 0) (omega (arith, z 0 h))
 
-either : (t : Table) → table_fault t ≡ Fine → HaveAlpha t ⊎ NoAlpha t
+either : (t : Table) → table_fault t ≡ Ok tt → HaveAlpha t ⊎ NoAlpha t
 either t e = go (dec_le 1 (alpha_at t 0))
   where
     first : 0 < t.n
@@ -69,28 +69,44 @@ not_both t h a z = omega (arith, a 0 h, z 0 h)
 
 -- ---- what is answered
 
-module _ (t : Table) (fine : table_fault t ≡ Fine) where
+module _ (t : Table) (fine : table_fault t ≡ Ok tt) where
   some : 1 ≤ t.n
   some = (fine_accepted t fine).tasks_least
 
-  known : (i : ℕ) → i < t.n → wait_fault t (level i) ≡ Fine
+  known : (i : ℕ) → i < t.n → wait_fault t (level i) ≡ Ok tt
   unfolding wait_fault
   known i h = rw (fine, within_in 1 t.n (suc i) (omega arith) h)
 
+  with_alphas : HaveAlpha t → all_waits t ≡ Ok (Some (waits_of t))
+  unfolding all_waits
+  with_alphas a = rw (fine, has t some a)
+
+  without : NoAlpha t → all_waits t ≡ Ok None
+  unfolding all_waits
+  without z = rw (fine, has_none t some z)
+
+  only_with : HaveAlpha t ⊎ NoAlpha t → (waits : List ℕ) → all_waits t ≡ Ok (Some waits) → HaveAlpha t
+  only_with (inl a) waits e = a
+  only_with (inr z) waits e = let x = without z in let y : ◌≡◌ {A = ℕ} 0 1 = cc in absurd (omega arith)
+
+  only_without : HaveAlpha t ⊎ NoAlpha t → all_waits t ≡ Ok None → NoAlpha t
+  only_without (inr z) e = z
+  only_without (inl a) e = let x = with_alphas a in let y : ◌≡◌ {A = ℕ} 0 1 = cc in absurd (omega arith)
+
   answers : AnswersWaits t
-  unfolding wait_answer all_waits
+  unfolding wait_answer
   answers =
       record {
         all_or_none = either t fine;
         wait = λ a i h. rw (known i h, has t some a);
         no_wait = λ z i h. rw (known i h, has_none t some z);
-        given = (λ g. only_with (either t fine) g, λ a. rw (fine, has t some a));
-        all = λ a i h. rw (fine, has t some a) (row_at max_tasks i (slot_wait t) 0 (omega (arith, (fine_accepted t fine).tasks_most)) ∙ rw (lt-ltb i t.n h));
+        given = (λ g. only_with (either t fine) g.0 g.1, λ a. (waits_of t, with_alphas a));
+        none = (only_without (either t fine), without);
+        all = λ waits e i h.
+            let x = with_alphas (only_with (either t fine) waits e) in
+            let same : waits ≡ waits_of t = cc in
+            rw same (row_at max_tasks i (slot_wait t) 0 (omega (arith, (fine_accepted t fine).tasks_most)) ∙ rw (lt-ltb i t.n h));
       }
-    where
-      only_with : HaveAlpha t ⊎ NoAlpha t → (all_waits t).given ≡ true → HaveAlpha t
-      only_with (inl a) g = a
-      only_with (inr z) g = let x : false ≡ true = rw (fine, has_none t some z) at g in let y : ◌≡◌ {A = ℕ} 0 1 = cc in absurd (omega arith)
 
 -- ---- what is printed
 
@@ -128,7 +144,7 @@ printed s t e =
 
 -- ---- what does not read alpha
 
-verdicts : (a b : Table) → table_fault a ≡ Fine → table_fault b ≡ Fine → SameButAlpha a b → (i allowance : ℕ) → i < a.n → bound_of b (level i) allowance ≡ bound_of a (level i) allowance
+verdicts : (a b : Table) → table_fault a ≡ Ok tt → table_fault b ≡ Ok tt → SameButAlpha a b → (i allowance : ℕ) → i < a.n → bound_of b (level i) allowance ≡ bound_of a (level i) allowance
 verdicts a b e f same i allowance h =
     verdict_reads.run_below (level (suc i)) a b i (record { first = e; second = f; related = (omega arith, unchanged a b same _) }) h allowance
 

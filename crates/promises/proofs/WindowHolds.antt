@@ -6,7 +6,7 @@ use native.Mathlib.Omega.{arith}
 use lib.Dec.{lit<}
 use Rattle.basics.specs.Over.{sum_to, max_to, first_to, all_to}
 use Rattle.table.specs.declared.Table.{Table}
-use Rattle.table.specs.declared.Checked.TheVariants.{Fine}
+use Rattle.std.specs.Prelude.{Ok}
 use Rattle.table.specs.Rules.{times_in_range, times_in_order, times_fault, is_unused, used_in_range, pair_in_range, totals_fit, pair_fault, pairs_fault, alpha_fault, task_fault, last_alpha, tasks_fault, table_fault, groups_in_range, has_group}
 use Rattle.table.specs.Empty.{empty_task, empty_table}
 use Rattle.table.specs.Faults.{first_fault}
@@ -35,7 +35,7 @@ use Rattle.promises.specs.Demand2.{demand_in, deadline_in}
 use Rattle.promises.specs.Window.{uncapped_demand_in, Window, before, shortened, relaxed, Story}
 use Rattle.promises.proofs.ThreeTasks.{three, met, meets_in, some_allowed}
 
-keeps : (t : Table) (i : ℕ) → table_fault t ≡ Fine → i < t.n → (u : ℕ) → Least (uncapped_demand_in t i) (deadline_in t i) u
+keeps : (t : Table) (i : ℕ) → table_fault t ≡ Ok tt → i < t.n → (u : ℕ) → Least (uncapped_demand_in t i) (deadline_in t i) u
     → (w : ℕ) × Least (demand_in t i) (deadline_in t i) w × (w ≤ u)
 keeps t i e h u l = capped_keeps (merged_view t) (bounds_runs (merged t) (merged_bounds t e)) (level i) u l
 

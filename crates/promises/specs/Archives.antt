@@ -1,7 +1,7 @@
 -- Request 2/12 of document 02: the archive on the release card, and what it keeps of request 8/12's alphas; of a table with request 9/12's groups none is written. When an archive is refused, and with what, is in demand 1.
 use Rattle.std.specs.Prelude.{◌≡◌, List, length, ℕ, ◌*◌, ◌≤◌}
 use Rattle.table.specs.declared.Table.{Table}
-use Rattle.table.specs.declared.Checked.TheVariants.{Fine}
+use Rattle.std.specs.Prelude.{Ok}
 use Rattle.table.specs.At.{NoAlpha, NoGroup}
 use Rattle.table.specs.Rules.{table_fault}
 use Rattle.table.specs.Answers.{accepted}
@@ -14,7 +14,7 @@ use Rattle.promises.specs.Words.{Writes}
 
 pub record Archives : Type 0 where
   -- what is written of an accepted table without groups, where there is room, is its archive, and past it the output is as it was
-  pub written_archive : (t : Table) (out : List ℕ) → table_fault t ≡ Fine → NoGroup t → block_size * t.n ≤ length out → Writes (archive_of t) out (archiving_answer t (length out)) (archiving t out)
+  pub written_archive : (t : Table) (out : List ℕ) → table_fault t ≡ Ok tt → NoGroup t → block_size * t.n ≤ length out → Writes (archive_of t) out (archiving_answer t (length out)) (archiving t out)
   -- "Writer and reader are both wanted, each undoing the other": the archive of an accepted table without alpha and without groups is read as that table, with zeros past the nth task
   pub reads_back : ReadsBack
   -- request 8/12, "The archive drops it": of a table with alphas it is read as the same table without them, and tables that differ in alpha alone have one archive

@@ -1,6 +1,6 @@
 -- Demand 1: every input gets an answer that the contract determines; a refusal is given exactly when its rule is the first that fails,
 -- and then everything lent holds what it held, with one amendment: of a card with bad blocks the list is written unless 15 or 11 is given. (That each function answers at all, and does nothing undefined, is what the checker proves of every function.)
-use Rattle.std.specs.Prelude.{ℕ, ◌≡◌, List, ◌++◌, ◌⊎◌, length, drop}
+use Rattle.std.specs.Prelude.{ℕ, ◌≡◌, List, ◌++◌, ◌⊎◌, length, drop, None, Err}
 use contract.Lifetimes.{Lfts}
 use contract.Monad.{Fun, fact}
 use seplogic.Ra.Ura.{Ura}
@@ -8,26 +8,27 @@ use base.Logic.{SProp, ent}
 use prog.Memory.{Memory}
 use prog.Routine.{Routine}
 use types.Logic.{Logic}
+use denote.RattleType.{RattleType}
+use denote.Param.Laws.{Laws}
+use mir.Syntax.{Dict}
 use denote.Triple.Entry.{Args}
 use denote.Triple.Clauses.{AtExit}
 use Rattle.basics.specs.Text.{put_into}
 use Rattle.basics.specs.Determined.{Determined, DeterminedWith}
 use Rattle.table.specs.declared.Refusal.{Refusal}
 use Rattle.table.specs.declared.Table.{Table}
-use Rattle.table.specs.declared.Checked.{Checked}
-use Rattle.table.specs.declared.Checked.TheVariants.{Refused}
+use Rattle.table.specs.Faults.{Checked}
 use Rattle.table.specs.Limits.{max_tasks}
 use Rattle.table.specs.Empty.{empty_table}
 use Rattle.table.specs.Faults.{number_of, Refuses}
 use Rattle.table.specs.Rules.{table_fault}
-use Rattle.put.specs.declared.Put.TheVariants.{Short}
 use Rattle.put.specs.Text.{put_answer, put_answer_at, put_at}
 use Rattle.listing.specs.Read.{read_listing}
 use Rattle.writing.specs.Write.{write_fault, write_answer, written}
 use Rattle.card.specs.Archive.{archiving_fault, archiving_answer, archiving, read_archive}
 use Rattle.salvaging.specs.Fates.{code_of, codes_of}
 use Rattle.salvaging.specs.Salvage.{blocks_of, salvage_fault, salvage_answer, listed, salvaged}
-use Rattle.table.specs.Answers.{or_table}
+use Rattle.table.specs.Answers.{or_table, table_from}
 use Rattle.theory.specs.Merge.{merged}
 use Rattle.analysis.specs.declared.Record.{Record}
 use Rattle.analysis.specs.Answers.{bound_of, analysis_fault, analysed, FillsRow}
@@ -52,8 +53,8 @@ use Rattle.rules.proofs.has_group.Reads as has_group
 use Rattle.rules.proofs.totals_fit.Reads as totals_fit
 use Rattle.rules.proofs.used_in_range.Reads as used_in_range
 use Rattle.field.proofs.ends_at.Reads as ends_at
-use Rattle.put.proofs.Put.length.Reads as put_length
 use Rattle.put.proofs.count_len.Reads as count_len
+use Rattle.std.proofs.option.Option.unwrap_or.Reads as put_length
 use Rattle.put.proofs.put_text.Reads as put_text
 use Rattle.put.proofs.time_len.Reads as time_len
 use Rattle.field.proofs.count.Reads as count
@@ -116,7 +117,7 @@ pub record Entries : Type 2 where
 
 -- ---- two answers to one input are equal, and so is what then lies in everything lent
 
-pub record Determines : Type 0 where
+pub record Determines : Type 2 where
   pub number : Determined (number.Learnt tt)
   pub empty : Determined (empty.Learnt tt)
   pub check : Determined (check.Learnt tt)
@@ -138,7 +139,8 @@ pub record Determines : Type 0 where
   pub ends_at : (κs : Lfts 1) → Determined (ends_at.Learnt κs)
   pub time_len : Determined (time_len.Learnt tt)
   pub count_len : Determined (count_len.Learnt tt)
-  pub put_length : Determined (put_length.Learnt tt)
+  -- how many bytes a put answers: std's `unwrap_or`, of any type
+  pub put_length : (T : RattleType) (laws : Laws T) (d : Dict) (κs : Lfts 1) → Determined (put_length.Learnt T laws d κs)
   pub put_text : (κs : Lfts 2) → DeterminedWith (λ x. x.0.now) (put_text.Learnt κs)
   pub put_time : (κs : Lfts 1) → DeterminedWith (λ x. x.0.now) (put_time.Learnt κs)
   pub put_count : (κs : Lfts 1) → DeterminedWith (λ x. x.0.now) (put_count.Learnt κs)
@@ -172,21 +174,21 @@ pub record Determines : Type 0 where
 -- ---- a refusal leaves everything lent as it was
 
 pub record Keeps : Type 0 where
-  pub row : (t : Table) (allowance : ℕ) (row : List Record) (r : Refusal) → analysis_fault t allowance (length row) ≡ Refused r → analysed t allowance row ≡ row
-  pub output : (t : Table) (out : List ℕ) (r : Refusal) → write_fault t (length out) ≡ Refused r → written t out ≡ out
-  pub field : (text out : List ℕ) → put_answer text out ≡ Short → put_into text out ≡ out
-  pub place : (text : List ℕ) (at : ℕ) (out : List ℕ) → put_answer_at text at out ≡ Short → put_at text at out ≡ out
-  pub page : (p : Page) (cells : List Cells) (out : List ℕ) → page_answer p cells out ≡ Short → page_into p cells out ≡ out
+  pub row : (t : Table) (allowance : ℕ) (row : List Record) (r : Refusal) → analysis_fault t allowance (length row) ≡ Err r → analysed t allowance row ≡ row
+  pub output : (t : Table) (out : List ℕ) (r : Refusal) → write_fault t (length out) ≡ Err r → written t out ≡ out
+  pub field : (text out : List ℕ) → put_answer text out ≡ None → put_into text out ≡ out
+  pub place : (text : List ℕ) (at : ℕ) (out : List ℕ) → put_answer_at text at out ≡ None → put_at text at out ≡ out
+  pub page : (p : Page) (cells : List Cells) (out : List ℕ) → page_answer p cells out ≡ None → page_into p cells out ≡ out
   -- "a refused reading gives no table"
-  pub table : (s : List ℕ) (r : Refusal) → (read_listing s).answer ≡ Refused r → (read_listing s).table ≡ empty_table
+  pub table : (s : List ℕ) (r : Refusal) → read_listing s ≡ Err r → table_from (read_listing s) ≡ empty_table
   -- and of an archive the same
-  pub archiving : (t : Table) (out : List ℕ) (r : Refusal) → archiving_fault t (length out) ≡ Refused r → archiving t out ≡ out
-  pub card : (a : List ℕ) (r : Refusal) → (read_archive a).answer ≡ Refused r → (read_archive a).table ≡ empty_table
+  pub archiving : (t : Table) (out : List ℕ) (r : Refusal) → archiving_fault t (length out) ≡ Err r → archiving t out ≡ out
+  pub card : (a : List ℕ) (r : Refusal) → read_archive a ≡ Err r → table_from (read_archive a) ≡ empty_table
 
 -- request 5/12 of document 02 amends this for the tool that mends cards: "After 14 or the table's own the list alone is written". In words: after 15 and 11 the list and the output
 -- are as they were; after 14 and the table's own the output is, and the list has an entry for each block, and past them what it had, as it has where nothing is refused
 pub record KeepsOrLists : Type 0 where
-  pub output : (s : List ℕ) (entries : ℕ) (out : List ℕ) (r : Refusal) → salvage_fault s entries (length out) ≡ Refused r → salvaged s entries out ≡ out
+  pub output : (s : List ℕ) (entries : ℕ) (out : List ℕ) (r : Refusal) → salvage_fault s entries (length out) ≡ Err r → salvaged s entries out ≡ out
   pub list_kept : (s list : List ℕ) (room place : ℕ)
       → Refuses (salvage_fault s (length list) room) 15 place ⊎ Refuses (salvage_fault s (length list) room) 11 place → listed s list room ≡ list
   pub list_written : (s list : List ℕ) (room : ℕ) → (Refuses (salvage_fault s (length list) room) 15 0 → ⊥) → (Refuses (salvage_fault s (length list) room) 11 0 → ⊥)

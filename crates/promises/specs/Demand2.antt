@@ -1,7 +1,7 @@
 -- Demand 2: the verdict on a task, and the figures of a listing.
 use Rattle.std.specs.Prelude.{ℕ, ◌≤◌, ◌<◌, ◌≡◌, List, length, get_or, drop}
 use Rattle.table.specs.declared.Table.{Table}
-use Rattle.table.specs.declared.Checked.TheVariants.{Fine}
+use Rattle.std.specs.Prelude.{Ok}
 use Rattle.table.specs.Rules.{table_fault}
 use Rattle.table.specs.Cleared.{ClearedSame}
 use Rattle.theory.specs.declared.Verdict.{Verdict}
@@ -11,7 +11,7 @@ use Rattle.theory.specs.View.{level}
 use Rattle.theory.specs.Demand.{demand_of}
 use Rattle.theory.specs.Bound.{Least, None}
 use Rattle.theory.specs.Rounds.{Counts}
-use Rattle.analysis.specs.declared.Answer.TheVariants.{Known}
+use Rattle.std.specs.Prelude.{Ok}
 use Rattle.analysis.specs.declared.Record.{Record}
 use Rattle.theory.specs.Tables.{merged_view}
 use Rattle.analysis.specs.Answers.{bound_of, analysis_fault, no_record, analysed}
@@ -56,23 +56,23 @@ pub record RightRow (t : Table) (allowance : ℕ) (row : List Record) : Type 0 w
   pub task : (i : ℕ) → i < t.n → (record_in (analysed t allowance row) i).task ≡ level i
   pub verdict : (i : ℕ) → i < t.n
       → let x = record_in (analysed t allowance row) i in
-      bound_of t (level i) allowance ≡ Known (record { verdict = x.verdict; rounds = x.rounds })
+      bound_of t (level i) allowance ≡ Ok (record { verdict = x.verdict; rounds = x.rounds })
   -- "the .. records past the last one written are unchanged"
   pub past : drop t.n (analysed t allowance row) ≡ drop t.n row
   pub long : length (analysed t allowance row) ≡ length row
 
 pub record Demand2 : Type 0 where
   -- of each task of an accepted table, under every allowance from 1, `bound` answers a verdict that is right (its rounds are `Rounds`')
-  pub verdicts : (t : Table) (i allowance : ℕ) → table_fault t ≡ Fine → i < t.n → 1 ≤ allowance
-      → (r : Counted) × (bound_of t (level i) allowance ≡ Known r) × RightVerdict t i allowance r.verdict
-  pub rows : (t : Table) (allowance : ℕ) (row : List Record) → analysis_fault t allowance (length row) ≡ Fine → RightRow t allowance row
+  pub verdicts : (t : Table) (i allowance : ℕ) → table_fault t ≡ Ok tt → i < t.n → 1 ≤ allowance
+      → (r : Counted) × (bound_of t (level i) allowance ≡ Ok r) × RightVerdict t i allowance r.verdict
+  pub rows : (t : Table) (allowance : ℕ) (row : List Record) → analysis_fault t allowance (length row) ≡ Ok tt → RightRow t allowance row
   -- the table of an accepted listing holds exactly the figures that its lines state
   pub correct : Correct
   pub complete : Complete
   pub unambiguous : Unambiguous
   pub passes_check : PassesCheck
   -- what is written of an accepted table, where there is room, is its text; "After success the bytes .. past the last one written are unchanged"
-  pub written_text : (t : Table) (out : List ℕ) → table_fault t ≡ Fine → length (text_of t) ≤ length out → Writes (text_of t) out (write_answer t (length out)) (written t out)
+  pub written_text : (t : Table) (out : List ℕ) → table_fault t ≡ Ok tt → length (text_of t) ≤ length out → Writes (text_of t) out (write_answer t (length out)) (written t out)
   -- a written listing reads back as the same table, and an accepted listing rewritten and read again gives the same table
   pub text_fits : TextFits
   pub reads_back : ReadsBack

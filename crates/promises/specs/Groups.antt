@@ -4,7 +4,7 @@ use Rattle.std.specs.Prelude.{ℕ, pred, ◌≤◌, ◌<◌, ◌≡◌, Bool, �
 use Prim.Native.String.{String}
 use Rattle.table.specs.declared.Level.{Level}
 use Rattle.table.specs.declared.Table.{Table}
-use Rattle.table.specs.declared.Checked.TheVariants.{Fine}
+use Rattle.std.specs.Prelude.{Ok}
 use Rattle.table.specs.Limits.{max_resources}
 use Rattle.table.specs.Empty.{no_groups}
 use Rattle.table.specs.At.{alpha_at, group_at, pair_at, with_groups, NoGroup, Same}
@@ -46,16 +46,16 @@ pub record Groups : Type 0 where
   pub verdict_without : (t : Table) → NoGroup t → (allowance : ℕ) (i : Level) → counted_in t allowance i ≡ counted_by (view_of t) allowance i
   pub wait_without : (t : Table) → NoGroup t → (i : Level) → wait_in t i ≡ wait_of (view_of t) (alpha_at t (pred i.0)) i
   -- a group of one resource is that resource by itself
-  pub of_one : (t : Table) (i k : ℕ) → table_fault t ≡ Fine → i < t.n → k < max_resources → ((j : ℕ) → j < max_resources → group_at t j ≡ group_at t k → j ≡ k)
+  pub of_one : (t : Table) (i k : ℕ) → table_fault t ≡ Ok tt → i < t.n → k < max_resources → ((j : ℕ) → j < max_resources → group_at t j ≡ group_at t k → j ≡ k)
       → pair_at (merged t) i k ≡ pair_at t i k
   -- only who is together matters: groups that are numbered otherwise, and groups of one in place of none, give the same verdicts, rounds and waits
-  pub numbered : (a b : Table) → table_fault a ≡ Fine → table_fault b ≡ Fine → SameTogether a b → (i allowance : ℕ) → i < a.n
+  pub numbered : (a b : Table) → table_fault a ≡ Ok tt → table_fault b ≡ Ok tt → SameTogether a b → (i allowance : ℕ) → i < a.n
       → bound_of b (level i) allowance ≡ bound_of a (level i) allowance
-  pub numbered_wait : (a b : Table) → table_fault a ≡ Fine → table_fault b ≡ Fine → SameTogether a b → (i : ℕ) → i < a.n → wait_in b (level i) ≡ wait_in a (level i)
+  pub numbered_wait : (a b : Table) → table_fault a ≡ Ok tt → table_fault b ≡ Ok tt → SameTogether a b → (i : ℕ) → i < a.n → wait_in b (level i) ≡ wait_in a (level i)
   -- demand 3 and request 7/12 "read the merged pairs" and are "for equal groups". What a clerk can use: where the second table is no easier than the first by the pairs as typed, it is so by the merged
   -- pairs, so that the one result of `NoEasier` holds of the two
-  pub as_typed : (a b : Table) → table_fault a ≡ Fine → table_fault b ≡ Fine → EqualGroups a b → NoEasier (view_of a) (view_of b) → NoEasier (merged_view a) (merged_view b)
-  pub keeps : (a b : Table) → table_fault a ≡ Fine → table_fault b ≡ Fine → EqualGroups a b → NoEasier (view_of a) (view_of b) → (i : ℕ) → i < a.n
+  pub as_typed : (a b : Table) → table_fault a ≡ Ok tt → table_fault b ≡ Ok tt → EqualGroups a b → NoEasier (view_of a) (view_of b) → NoEasier (merged_view a) (merged_view b)
+  pub keeps : (a b : Table) → table_fault a ≡ Ok tt → table_fault b ≡ Ok tt → EqualGroups a b → NoEasier (view_of a) (view_of b) → (i : ℕ) → i < a.n
       → (u : ℕ) → Least (demand_in b i) (deadline_in b i) u → (w : ℕ) × Least (demand_in a i) (deadline_in a i) w × (w ≤ u)
 
 -- ---- a larger group is a coarser lock, and no promise on bounds either way: computed

@@ -5,7 +5,7 @@ use Rattle.std.specs.Prelude.{ℕ, ◌-◌, ◌≤◌, ◌<◌, ◌≡◌}
 use Rattle.table.specs.declared.Level.{Level}
 use Rattle.table.specs.declared.Resource.{Resource}
 use Rattle.table.specs.declared.Table.{Table}
-use Rattle.table.specs.declared.Checked.TheVariants.{Fine}
+use Rattle.std.specs.Prelude.{Ok}
 use Rattle.table.specs.Limits.{max_resources}
 use Rattle.table.specs.Rules.{table_fault}
 use Rattle.theory.specs.View.{View, level, resource, uses}
@@ -54,8 +54,8 @@ NoEasier = Compared ◌≤◌ ◌≤◌ ◌≤◌
 
 -- two accepted tables, and how the second is related to the first
 pub record Related (R : View → View → Type 0) (a b : Table) : Type 0 where
-  pub first : table_fault a ≡ Fine
-  pub second : table_fault b ≡ Fine
+  pub first : table_fault a ≡ Ok tt
+  pub second : table_fault b ≡ Ok tt
   pub related : R (merged_view a) (merged_view b)
 
 -- of tables so related, "for each task of the first: if the second gives it a bound, the first gives it one too, and no larger"

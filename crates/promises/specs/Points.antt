@@ -1,11 +1,10 @@
 -- The paper's points marked P, every one, two of them as request 3/12 has them, and the reports with request 6/12's rounds and request 8/12's column: one list, one statement over it.
-use Rattle.std.specs.Prelude.{ℕ, ◌≡◌, List, [], ◌∷◌, length}
+use Rattle.std.specs.Prelude.{ℕ, ◌≡◌, Option, List, [], ◌∷◌, length}
 use Prim.Native.String.{String}
 use Rattle.basics.specs.Text.{bytes}
 use Rattle.field.specs.declared.Field.{Field}
-use Rattle.field.specs.declared.Field.TheVariants.{Value}
 use Rattle.field.specs.declared.Rounding.TheVariants.{Down, Up}
-use Rattle.field.specs.Number.{time_field}
+use Rattle.field.specs.Number.{time_field, reads_as}
 use Rattle.theory.specs.Work.{workload}
 use Rattle.page.specs.Report.{report_prints, bench_prints}
 
@@ -23,8 +22,8 @@ Holds (reports listing text) = report_prints (bytes listing) ≡ bytes text
 Holds (benches listing text) = bench_prints (bytes listing) ≡ bytes text
 Holds (loads T D t x w) = workload T D t x ≡ w
 Holds (reads text us) =
-    let value = Value us (length (bytes text)) in
-    ◌≡◌ {A = Field × Field} (time_field Down (bytes text), time_field Up (bytes text)) (value, value)
+    let value = reads_as us (length (bytes text)) in
+    ◌≡◌ {A = Option Field × Option Field} (time_field Down (bytes text), time_field Up (bytes text)) (value, value)
 
 infixr 10 ◌and◌
 pub data All : List Point → Type 0 where

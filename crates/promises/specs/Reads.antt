@@ -5,7 +5,7 @@ use Rattle.basics.specs.Choice.{only}
 use Rattle.basics.specs.Exactly.{◌exactly_if◌}
 use Rattle.table.specs.declared.Level.{Level}
 use Rattle.table.specs.declared.Table.{Table}
-use Rattle.table.specs.declared.Checked.TheVariants.{Fine}
+use Rattle.std.specs.Prelude.{Ok}
 use Rattle.table.specs.Limits.{max_resources}
 use Rattle.table.specs.Rules.{table_fault}
 use Rattle.theory.specs.declared.Counted.{Counted}
@@ -134,7 +134,7 @@ pub record VerdictReads : Type 0 where
   -- nor can the ceilings of the first be taken for both
   pub own_ceilings : SameAnswers SameByFirst → ⊥
   -- the tasks that i reads are those of which some units count in its demand
-  pub reads_units : (t : Table) (i l : ℕ) → table_fault t ≡ Fine → l < t.n
+  pub reads_units : (t : Table) (i l : ℕ) → table_fault t ≡ Ok tt → l < t.n
       → Reads (merged_view t) (level i) (level l) exactly_if (1 ≤ units_read (merged_view t) (level i) (level l))
   pub read_in_both : (a b : Table) (i l : ℕ) → Related (λ v w. SameRead v w (level i)) a b → l < a.n
       → Reads (merged_view a) (level i) (level l) exactly_if Reads (merged_view b) (level i) (level l)

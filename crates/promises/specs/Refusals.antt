@@ -1,14 +1,11 @@
--- Demand 1: a refusal is given, with its number and place, exactly when its rule is the first that fails. It is said of what is answered (`Refuses c k p`: the answer c refuses with the number k, at the place p).
+-- Demand 1: a refusal is given, with its number and place, exactly when its rule is the first that fails. It is said of what is answered (`Refuses c k p`: the answer c, be it of a check or of what gives a table, a verdict or a wait where nothing is refused, refuses with the number k, at the place p).
 -- What is called for is said case by case, by bounds and not by the tests that decide: of a table in `table/specs/Refusals`, and here of what is asked after the table's own.
 use Rattle.std.specs.Prelude.{ℕ, ◌*◌, ◌≤◌, ◌<◌, ◌≡◌, ◌⊎◌, List, length}
 use Rattle.basics.specs.Exactly.{◌exactly_if◌}
 use Rattle.table.specs.declared.Level.{Level}
 use Rattle.table.specs.declared.Fault.{Fault}
 use Rattle.table.specs.declared.Table.{Table}
-use Rattle.table.specs.declared.Refusal.{Refusal}
-use Rattle.table.specs.declared.Written.{Written}
-use Rattle.table.specs.declared.Written.TheVariants.{NotWritten}
-use Rattle.table.specs.Faults.{number_of, Told, Refuses}
+use Rattle.table.specs.Faults.{number_of, Refuses}
 use Rattle.table.specs.Limits.{max_resources}
 use Rattle.table.specs.At.{group_at, NoGroup}
 use Rattle.table.specs.Rules.{table_fault}
@@ -23,11 +20,7 @@ use Rattle.release.specs.Refusals.{RefusedAsCalled as CardRefusedAsCalled}
 use Rattle.salvaging.specs.Salvage.{salvage_answer}
 use Rattle.recovery.specs.Refusals.{SalvagedAsCalled, CallsFor as SpoiledCallsFor}
 use Rattle.theory.specs.Merge.{merged}
-use Rattle.analysis.specs.declared.Answer.{Answer}
-use Rattle.analysis.specs.declared.Answer.TheVariants.{Unknown}
 use Rattle.analysis.specs.Answers.{bound_of, analysis_fault}
-use Rattle.waits.specs.declared.Waiting.{Waiting}
-use Rattle.waits.specs.declared.Waiting.TheVariants.{Unknown as UnknownWait}
 use Rattle.waits.specs.Answers.{wait_answer, all_waits}
 
 -- ---- after the table's own: "10 and 11 come after these, in that order, with place 0", and 16 "after 10 and before 11"
@@ -68,15 +61,6 @@ pub data ArchivingCallsFor (t : Table) (room : ℕ) : ℕ → ℕ → Type 0 whe
 
 -- ---- refused exactly if it is called for: the answer is a refusal with this number, at this place
 
-abbrev pub NotKnown : Answer → ℕ → ℕ → Type 0
-NotKnown a number place = (r : Refusal) × (a ≡ Unknown r) × Told r number place
-
-abbrev pub NotWaiting : Waiting → ℕ → ℕ → Type 0
-NotWaiting w number place = (r : Refusal) × (w ≡ UnknownWait r) × Told r number place
-
-abbrev pub NotWrote : Written → ℕ → ℕ → Type 0
-NotWrote w number place = (r : Refusal) × (w ≡ NotWritten r) × Told r number place
-
 pub record FirstDecides : Type 0 where
   -- no two refusals have one number
   pub numbers : (a b : Fault) → number_of a ≡ number_of b → a ≡ b
@@ -89,18 +73,18 @@ pub record FirstDecides : Type 0 where
   -- a card with bad blocks: 15, 11 and 14, and then the table's own; and what becomes of each block
   pub salvage : SalvagedAsCalled
   pub salvage_written : (s : List ℕ) (entries room number place : ℕ)
-      → NotWrote (salvage_answer s entries room) number place exactly_if SpoiledCallsFor s entries room number place
+      → Refuses (salvage_answer s entries room) number place exactly_if SpoiledCallsFor s entries room number place
   -- of what the analysis reads nothing but the table's own
-  pub merge : (t : Table) (number place : ℕ) → Refuses (or_table (table_fault t) (merged t)).answer number place exactly_if CallsFor t number place
+  pub merge : (t : Table) (number place : ℕ) → Refuses (or_table (table_fault t) (merged t)) number place exactly_if CallsFor t number place
   -- after the table's own: of a task, of its wait, of a row, and of an output, be it for a listing or for an archive
   pub bound : (t : Table) (i : Level) (allowance number place : ℕ)
-      → NotKnown (bound_of t i allowance) number place exactly_if BoundCallsFor t i allowance number place
-  pub wait : (t : Table) (i : Level) (number place : ℕ) → NotWaiting (wait_answer t i) number place exactly_if WaitCallsFor t i number place
+      → Refuses (bound_of t i allowance) number place exactly_if BoundCallsFor t i allowance number place
+  pub wait : (t : Table) (i : Level) (number place : ℕ) → Refuses (wait_answer t i) number place exactly_if WaitCallsFor t i number place
   -- of all its tasks' waits nothing but the table's own
-  pub waits : (t : Table) (number place : ℕ) → Refuses (all_waits t).answer number place exactly_if CallsFor t number place
+  pub waits : (t : Table) (number place : ℕ) → Refuses (all_waits t) number place exactly_if CallsFor t number place
   pub row : (t : Table) (allowance room number place : ℕ)
       → Refuses (analysis_fault t allowance room) number place exactly_if RowCallsFor t allowance room number place
   pub output : (t : Table) (room number place : ℕ)
-      → NotWrote (write_answer t room) number place exactly_if OutputCallsFor t (length (text_of t)) room number place
+      → Refuses (write_answer t room) number place exactly_if OutputCallsFor t (length (text_of t)) room number place
   pub archiving : (t : Table) (room number place : ℕ)
-      → NotWrote (archiving_answer t room) number place exactly_if ArchivingCallsFor t room number place
+      → Refuses (archiving_answer t room) number place exactly_if ArchivingCallsFor t room number place

@@ -4,7 +4,7 @@ use Rattle.std.specs.Prelude.{ℕ, ◌≤◌, ◌<◌, min, ◌≡◌}
 use Prim.Native.String.{String}
 use Rattle.basics.specs.Text.{bytes}
 use Rattle.table.specs.declared.Table.{Table}
-use Rattle.table.specs.declared.Checked.TheVariants.{Fine}
+use Rattle.std.specs.Prelude.{Ok}
 use Rattle.table.specs.Rules.{table_fault}
 use Rattle.theory.specs.Work.{uncapped, workload}
 use Rattle.theory.specs.View.{level}
@@ -32,12 +32,12 @@ pub record Window : Type 0 where
   -- the new one never falls as x grows up to D (that x 8 and x 9 now give 2 is in `Points`),
   pub grows : (T D t x x' : ℕ) → 0 < T → D ≤ T → x ≤ x' → x' ≤ D → workload T D t x ≤ workload T D t x'
   -- and so, of each task of an accepted table, "never falls as x grows up to C"
-  pub grows_to_run : (t : Table) (i : ℕ) → table_fault t ≡ Fine → i < t.n → (s x x' : ℕ) → x ≤ x' → x' ≤ run_in t i
+  pub grows_to_run : (t : Table) (i : ℕ) → table_fault t ≡ Ok tt → i < t.n → (s x x' : ℕ) → x ≤ x' → x' ≤ run_in t i
       → load_of workload (merged_view t) s (level i) x ≤ load_of workload (merged_view t) s (level i) x'
   -- "Demand 2 reads it from here on": this too holds by definition
   pub read : (t : Table) (i s : ℕ) → demand_in t i s ≡ demand_with workload (merged_view t) (level i) s
   -- "every task that had a bound keeps one, and no bound may become larger than before"
-  pub keeps : (t : Table) (i : ℕ) → table_fault t ≡ Fine → i < t.n → (u : ℕ) → Least (uncapped_demand_in t i) (deadline_in t i) u
+  pub keeps : (t : Table) (i : ℕ) → table_fault t ≡ Ok tt → i < t.n → (u : ℕ) → Least (uncapped_demand_in t i) (deadline_in t i) u
       → (w : ℕ) × Least (demand_in t i) (deadline_in t i) w × (w ≤ u)
 
 -- ---- the developer's story, computed: examples/before-shortening.txt, and the same with the second task shortened from 6 ms to 5, examples/shortened.txt

@@ -3,8 +3,8 @@ use Prim.Native.String.{String}
 use Rattle.std.specs.Prelude.{ℕ, ◌≡◌, List, ◌++◌, length, drop}
 use Rattle.basics.specs.Text.{bytes}
 use Rattle.table.specs.declared.Table.{Table}
-use Rattle.table.specs.declared.Written.{Written}
-use Rattle.table.specs.declared.Written.TheVariants.{Wrote}
+use Rattle.table.specs.Answers.{Written, table_from}
+use Rattle.std.specs.Prelude.{Ok}
 use Rattle.listing.specs.Read.{read_listing}
 
 -- a contract (`learnt`, as in basics/specs/Determined) says that the answer to the arguments a is `answer a`
@@ -17,9 +17,9 @@ Leaves {A} {R} {X} {H} held learnt after = (a : A) (r : R) (x : X) → learnt a 
 
 -- the table that a listing is read as
 abbrev pub read_table : String → Table
-read_table s = (read_listing (bytes s)).table
+read_table s = table_from (read_listing (bytes s))
 
 -- a writer's answer, and what an output that held `out` then holds: all of the text is written at its start, and past it is what was there
 pub record Writes (text out : List ℕ) (answer : Written) (after : List ℕ) : Type 0 where
-  pub wrote : answer ≡ Wrote (length text)
+  pub wrote : answer ≡ Ok (length text)
   pub output : after ≡ text ++ drop (length text) out
