@@ -5,9 +5,8 @@ use mathlib.Core.Path.{◌≡◌, refl}
 use mathlib.Core.List.{List}
 use native.Mathlib.Omega.{arith}
 use borrow.Author.Tests.{le-leb}
-use Rattle.table.specs.Faults.{Checked}
+use Rattle.table.specs.Faults.{Checked, ◌then◌}
 use Rattle.std.specs.Prelude.{Ok, Err}
-use Rattle.table.specs.Faults.{◌then◌}
 use Rattle.table.specs.Rules.{table_fault}
 use Rattle.table.proofs.Chain.{wrote_is, given_is}
 use Rattle.table.proofs.FirstLaws.{then_fine}

@@ -1,12 +1,10 @@
 -- What the program `archive` makes of a listing: the listing's refusal, 20, or the archive of its table. There is always room for it, so 11 is not among them.
 use Rattle.std.specs.Prelude.{ℕ, ◌*◌, not, List}
 use Rattle.table.specs.declared.Fault.TheVariants.{HasGroup}
-use Rattle.table.specs.Faults.{Checked}
-use Rattle.table.specs.Answers.{Written, answer_of, table_from}
+use Rattle.table.specs.Faults.{Checked, ◌then◌, unless}
+use Rattle.table.specs.Answers.{Written, answer_of, table_from, or_wrote, or_text}
 use Rattle.table.specs.Limits.{max_tasks}
-use Rattle.table.specs.Faults.{◌then◌, unless}
 use Rattle.table.specs.Rules.{has_group}
-use Rattle.table.specs.Answers.{or_wrote, or_text}
 use Rattle.listing.specs.Read.{read_listing}
 use Rattle.block.specs.Block.{block_size}
 use Rattle.card.specs.Archive.{archive_of}

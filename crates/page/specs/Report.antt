@@ -1,13 +1,11 @@
 -- The text that the programs `report` and `bench` print for a listing: document 01, "The report program", and requests 6/12 and 8/12 of document 02.
-use Rattle.std.specs.Prelude.{ℕ, suc, ◌+◌, ◌*◌, Bool, true, false, List, [], ◌∷◌, ◌++◌}
+use Rattle.std.specs.Prelude.{ℕ, suc, ◌+◌, ◌*◌, Bool, true, false, List, [], ◌∷◌, ◌++◌, Option, Some, None, Ok, Err}
 use Rattle.basics.specs.Over.{join_to}
 use Rattle.basics.specs.Text.{bytes, ending}
 use Rattle.table.specs.declared.Table.{Table}
-use Rattle.table.specs.Faults.{Checked}
-use Rattle.std.specs.Prelude.{Option, Some, None, Ok, Err}
+use Rattle.table.specs.Faults.{Checked, ◌then◌}
 use Rattle.table.specs.Answers.{answer_of, table_from}
 use Rattle.table.specs.Limits.{max_tasks}
-use Rattle.table.specs.Faults.{◌then◌}
 use Rattle.table.specs.Rules.{has_alpha}
 use Rattle.put.specs.Text.{count_text}
 use Rattle.refusal.specs.declared.Source.TheVariants.{Listing}

@@ -6,12 +6,11 @@ use mathlib.Core.List.{List}
 use lib.ListN.{length}
 use borrow.Author.Tests.{le-leb}
 use Rattle.table.specs.declared.Table.{Table}
-use Rattle.table.specs.Answers.{table_from}
+use Rattle.table.specs.Answers.{table_from, accepted}
 use Rattle.std.specs.Prelude.{Ok}
 use Rattle.table.specs.At.{NoGroup}
 use Rattle.table.specs.Rules.{table_fault}
 use Rattle.table.proofs.GroupLaws.{no_group_is}
-use Rattle.table.specs.Answers.{accepted}
 use Rattle.table.specs.Cleared.{cleared}
 use Rattle.listing.specs.Read.{read_listing}
 use Rattle.meaning.proofs.Meaning.{passes_check as listing-passes}

@@ -22,7 +22,6 @@ use Rattle.theory.proofs.WorkLaws.{workload_rises}
 use Rattle.theory.proofs.AllowanceLaws.{open_above, open_count}
 use Rattle.theory.proofs.EndLaws.{Right, meets_if, misses_if}
 use Rattle.theory.proofs.DemandLaws.{demand_start}
-use Rattle.std.specs.Prelude.{Ok}
 use Rattle.theory.specs.Tables.{merged_view, counted_by, counted_in}
 use Rattle.analysis.specs.declared.Record.{Record}
 use Rattle.analysis.specs.Answers.{bound_of, analysis_fault, record_by}

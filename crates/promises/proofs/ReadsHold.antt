@@ -21,7 +21,6 @@ use Rattle.theory.specs.Demand.{units_read}
 use Rattle.theory.specs.Bound.{Least, None}
 use Rattle.theory.specs.Rounds.{counted_from}
 use Rattle.theory.specs.Tables.{merged_view, counted_by, counted_in}
-use Rattle.std.specs.Prelude.{Ok}
 use Rattle.analysis.specs.Answers.{bound_fault, or_answer, bound_of}
 use Rattle.page.specs.Report.{report_allowance}
 use Rattle.promises.specs.Demand2.{demand_in, deadline_in}

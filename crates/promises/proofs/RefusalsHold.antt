@@ -15,10 +15,9 @@ use Rattle.basics.proofs.ChoiceLaws.{within_low, within_high}
 use Rattle.table.specs.declared.Level.{Level}
 use Rattle.table.specs.declared.Table.{Table}
 use Rattle.table.specs.declared.Fault.TheVariants.{UnknownTask, TooShort, NoRounds, HasGroup}
-use Rattle.table.specs.Faults.{Checked}
+use Rattle.table.specs.Faults.{Checked, Refuses, ◌then◌, unless}
 use Rattle.std.specs.Prelude.{Option, Result, Ok, Err}
 use Rattle.table.specs.declared.Refusal.{Refusal}
-use Rattle.table.specs.Faults.{Refuses, ◌then◌, unless}
 use Rattle.table.specs.Answers.{or_table, or_wrote}
 use Rattle.table.specs.Rules.{has_group, table_fault}
 use Rattle.table.specs.Refusals.{CallsFor}

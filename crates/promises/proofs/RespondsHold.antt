@@ -40,7 +40,6 @@ use Rattle.schedules.specs.Shown.{shown_table, shown_bounds, miss_table, miss_pi
 use Rattle.schedules.proofs.TheoremHolds.{theorem1_holds}
 use Rattle.schedules.proofs.ShownHolds.{shown_holds}
 use Rattle.schedules.proofs.MissHolds.{miss_holds}
-use Rattle.std.specs.Prelude.{Ok}
 use Rattle.analysis.specs.Answers.{bound_of}
 use Rattle.analysis.proofs.ByRounds.{rounds_right, known}
 use Rattle.page.specs.declared.Columns.{Columns}

@@ -24,7 +24,6 @@ use Rattle.theory.specs.Tables.{merged_view, counted_by, counted_in}
 use Rattle.theory.proofs.WorkLaws.{workload_rises}
 use Rattle.theory.proofs.RoundLaws.{counts_unique}
 use Rattle.theory.proofs.AllowanceLaws.{open_rounds, settled_rounds, going_open, open_count, rounds_most}
-use Rattle.std.specs.Prelude.{Ok}
 use Rattle.analysis.specs.Answers.{bound_of}
 use Rattle.analysis.proofs.ByRounds.{rounds_end, under_more, bound_known, known}
 use Rattle.page.specs.declared.Columns.{Columns}

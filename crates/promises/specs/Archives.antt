@@ -1,7 +1,6 @@
 -- Request 2/12 of document 02: the archive on the release card, and what it keeps of request 8/12's alphas; of a table with request 9/12's groups none is written. When an archive is refused, and with what, is in demand 1.
-use Rattle.std.specs.Prelude.{◌≡◌, List, length, ℕ, ◌*◌, ◌≤◌}
+use Rattle.std.specs.Prelude.{◌≡◌, List, length, ℕ, ◌*◌, ◌≤◌, Ok}
 use Rattle.table.specs.declared.Table.{Table}
-use Rattle.std.specs.Prelude.{Ok}
 use Rattle.table.specs.At.{NoAlpha, NoGroup}
 use Rattle.table.specs.Rules.{table_fault}
 use Rattle.table.specs.Answers.{accepted}

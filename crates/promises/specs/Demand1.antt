@@ -17,10 +17,9 @@ use Rattle.basics.specs.Text.{put_into}
 use Rattle.basics.specs.Determined.{Determined, DeterminedWith}
 use Rattle.table.specs.declared.Refusal.{Refusal}
 use Rattle.table.specs.declared.Table.{Table}
-use Rattle.table.specs.Faults.{Checked}
+use Rattle.table.specs.Faults.{Checked, number_of, Refuses}
 use Rattle.table.specs.Limits.{max_tasks}
 use Rattle.table.specs.Empty.{empty_table}
-use Rattle.table.specs.Faults.{number_of, Refuses}
 use Rattle.table.specs.Rules.{table_fault}
 use Rattle.put.specs.Text.{put_answer, put_answer_at, put_at}
 use Rattle.listing.specs.Read.{read_listing}
@@ -179,7 +178,7 @@ pub record Keeps : Type 0 where
   pub field : (text out : List ℕ) → put_answer text out ≡ None → put_into text out ≡ out
   pub place : (text : List ℕ) (at : ℕ) (out : List ℕ) → put_answer_at text at out ≡ None → put_at text at out ≡ out
   pub page : (p : Page) (cells : List Cells) (out : List ℕ) → page_answer p cells out ≡ None → page_into p cells out ≡ out
-  -- "a refused reading gives no table"
+  -- "a refused reading gives no table": its answer is the refusal alone, and where a definition asks for its table, that is the empty one
   pub table : (s : List ℕ) (r : Refusal) → read_listing s ≡ Err r → table_from (read_listing s) ≡ empty_table
   -- and of an archive the same
   pub archiving : (t : Table) (out : List ℕ) (r : Refusal) → archiving_fault t (length out) ≡ Err r → archiving t out ≡ out

@@ -1,7 +1,6 @@
 -- Demand 2: the verdict on a task, and the figures of a listing.
-use Rattle.std.specs.Prelude.{ℕ, ◌≤◌, ◌<◌, ◌≡◌, List, length, get_or, drop}
+use Rattle.std.specs.Prelude.{ℕ, ◌≤◌, ◌<◌, ◌≡◌, List, length, get_or, drop, Ok}
 use Rattle.table.specs.declared.Table.{Table}
-use Rattle.std.specs.Prelude.{Ok}
 use Rattle.table.specs.Rules.{table_fault}
 use Rattle.table.specs.Cleared.{ClearedSame}
 use Rattle.theory.specs.declared.Verdict.{Verdict}
@@ -11,7 +10,6 @@ use Rattle.theory.specs.View.{level}
 use Rattle.theory.specs.Demand.{demand_of}
 use Rattle.theory.specs.Bound.{Least, None}
 use Rattle.theory.specs.Rounds.{Counts}
-use Rattle.std.specs.Prelude.{Ok}
 use Rattle.analysis.specs.declared.Record.{Record}
 use Rattle.theory.specs.Tables.{merged_view}
 use Rattle.analysis.specs.Answers.{bound_of, analysis_fault, no_record, analysed}

@@ -1,10 +1,9 @@
 -- Request 9/12 of document 02: locks taken together. Demand 2, the rounds and the wait read the merged pairs (`merged_view`, in `Demand2`, `Rounds` and `Waits`), and so do demand 3 and request 7/12 (`NoEasier`), what a
 -- verdict reads (`Reads`) and what a bound promises about the console (`Responds`: a group is one lock there too). That a listing's groups are in its table, are written and read back is in demand 2; 19, 20 and 4 of a group are in demand 1.
-use Rattle.std.specs.Prelude.{ℕ, pred, ◌≤◌, ◌<◌, ◌≡◌, Bool, ◌&&◌, ◌||◌, eqb, ltb}
+use Rattle.std.specs.Prelude.{ℕ, pred, ◌≤◌, ◌<◌, ◌≡◌, Bool, ◌&&◌, ◌||◌, eqb, ltb, Ok}
 use Prim.Native.String.{String}
 use Rattle.table.specs.declared.Level.{Level}
 use Rattle.table.specs.declared.Table.{Table}
-use Rattle.std.specs.Prelude.{Ok}
 use Rattle.table.specs.Limits.{max_resources}
 use Rattle.table.specs.Empty.{no_groups}
 use Rattle.table.specs.At.{alpha_at, group_at, pair_at, with_groups, NoGroup, Same}

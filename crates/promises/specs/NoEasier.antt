@@ -1,11 +1,10 @@
 -- Demand 3 and request 7/12 of document 02, as one result: where the second of two tables is no easier than the first, a task of the first that has a bound in the second has one in the first, no
 -- larger. A bound is demand 2's, where no allowance of rounds enters; under the allowance of `report` it holds of what is printed, and under a small one it does not (`printed` and `overtakes`
 -- of `Rounds`).
-use Rattle.std.specs.Prelude.{ℕ, ◌-◌, ◌≤◌, ◌<◌, ◌≡◌}
+use Rattle.std.specs.Prelude.{ℕ, ◌-◌, ◌≤◌, ◌<◌, ◌≡◌, Ok}
 use Rattle.table.specs.declared.Level.{Level}
 use Rattle.table.specs.declared.Resource.{Resource}
 use Rattle.table.specs.declared.Table.{Table}
-use Rattle.std.specs.Prelude.{Ok}
 use Rattle.table.specs.Limits.{max_resources}
 use Rattle.table.specs.Rules.{table_fault}
 use Rattle.theory.specs.View.{View, level, resource, uses}

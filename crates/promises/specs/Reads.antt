@@ -1,11 +1,10 @@
 -- Which figures of a table a verdict reads. Two accepted tables that agree on them have the same verdict, with the same rounds, for the task asked about, however much they differ in all others.
 -- `EachRead` has, for each kind of them, two tables that show why it is asked.
-use Rattle.std.specs.Prelude.{ℕ, ◌-◌, ◌≤◌, ◌<◌, ◌≡◌, true, List, ◌⊎◌}
+use Rattle.std.specs.Prelude.{ℕ, ◌-◌, ◌≤◌, ◌<◌, ◌≡◌, true, List, ◌⊎◌, Ok}
 use Rattle.basics.specs.Choice.{only}
 use Rattle.basics.specs.Exactly.{◌exactly_if◌}
 use Rattle.table.specs.declared.Level.{Level}
 use Rattle.table.specs.declared.Table.{Table}
-use Rattle.std.specs.Prelude.{Ok}
 use Rattle.table.specs.Limits.{max_resources}
 use Rattle.table.specs.Rules.{table_fault}
 use Rattle.theory.specs.declared.Counted.{Counted}

@@ -1,8 +1,7 @@
 -- Request 6/12 of document 02: how many rounds. That an allowance of 0 is refused is in demand 1, and when a verdict is open in demand 2 too.
-use Rattle.std.specs.Prelude.{ℕ, suc, ◌+◌, ◌-◌, ◌≤◌, ◌<◌, ◌≡◌, List}
+use Rattle.std.specs.Prelude.{ℕ, suc, ◌+◌, ◌-◌, ◌≤◌, ◌<◌, ◌≡◌, List, Ok}
 use Rattle.basics.specs.Exactly.{◌exactly_if◌}
 use Rattle.table.specs.declared.Table.{Table}
-use Rattle.std.specs.Prelude.{Ok}
 use Rattle.table.specs.Rules.{table_fault}
 use Rattle.table.specs.Answers.{accepted}
 use Rattle.listing.specs.Read.{read_listing}
@@ -11,7 +10,6 @@ use Rattle.theory.specs.declared.Counted.{Counted}
 use Rattle.theory.specs.View.{level}
 use Rattle.theory.specs.Rounds.{length_after, Ends}
 use Rattle.theory.specs.Tables.{merged_view}
-use Rattle.std.specs.Prelude.{Ok}
 use Rattle.analysis.specs.Answers.{bound_of}
 use Rattle.page.specs.declared.Columns.{Columns}
 use Rattle.page.specs.declared.Columns.TheVariants.{Five}

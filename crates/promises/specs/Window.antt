@@ -1,10 +1,9 @@
 -- Request 3/12 of document 02: no workload is more than t in a window of t. Each by itself: S, O and F of one task together may be, and so may the sum over tasks.
 -- What was read before it, document 01's workload, is `uncapped`.
-use Rattle.std.specs.Prelude.{ℕ, ◌≤◌, ◌<◌, min, ◌≡◌}
+use Rattle.std.specs.Prelude.{ℕ, ◌≤◌, ◌<◌, min, ◌≡◌, Ok}
 use Prim.Native.String.{String}
 use Rattle.basics.specs.Text.{bytes}
 use Rattle.table.specs.declared.Table.{Table}
-use Rattle.std.specs.Prelude.{Ok}
 use Rattle.table.specs.Rules.{table_fault}
 use Rattle.theory.specs.Work.{uncapped, workload}
 use Rattle.theory.specs.View.{level}

@@ -1,10 +1,9 @@
 -- Words that the promises are made of.
 use Prim.Native.String.{String}
-use Rattle.std.specs.Prelude.{ℕ, ◌≡◌, List, ◌++◌, length, drop}
+use Rattle.std.specs.Prelude.{ℕ, ◌≡◌, List, ◌++◌, length, drop, Ok}
 use Rattle.basics.specs.Text.{bytes}
 use Rattle.table.specs.declared.Table.{Table}
 use Rattle.table.specs.Answers.{Written, table_from}
-use Rattle.std.specs.Prelude.{Ok}
 use Rattle.listing.specs.Read.{read_listing}
 
 -- a contract (`learnt`, as in basics/specs/Determined) says that the answer to the arguments a is `answer a`

@@ -1,7 +1,6 @@
 -- What the program `unarchive` makes of an archive: the archive's refusal, or the listing of its table. There is always room for it, so 11 is not among them.
 use Rattle.std.specs.Prelude.{List, ℕ, length}
-use Rattle.table.specs.Answers.{Written, answer_of, table_from}
-use Rattle.table.specs.Answers.{or_wrote, or_text}
+use Rattle.table.specs.Answers.{Written, answer_of, table_from, or_wrote, or_text}
 use Rattle.writing.specs.Write.{text_of}
 use Rattle.card.specs.Archive.{read_archive}
 

@@ -16,66 +16,28 @@ one c =
 
 abbrev two : (c : goal.After-unwrap_or) → Upto c.args.line.now 28
 two c =
-    let one : Upto c.args.line.now 8 =
-    upto_first (bytes "refused ") c.put_text.auto.out (written_all (bytes "refused ") _ (omega (arith, c.requires.0)) c.unwrap_or-a.ensures c.put_text.ensures.0 c.put_text.ensures.1) (omega arith) in
-    let u = one in
+    let u = one (goal.at.After-unwrap_or c).After-unwrap_or-a in
     let n = c.number.result in
     upto_more u (count_text n) c.put_count.auto.out
     (written_all (count_text n) _ (omega (arith, count_most n, upto_room 20 u (omega (arith, c.requires.0)))) c.unwrap_or.ensures c.put_count.ensures.0 c.put_count.ensures.1) (omega (arith, c.requires.0)) (omega (arith, count_most n))
 
 abbrev three : (c : goal.After-unwrap_or-2) → Upto c.args.line.now 35
 three c =
-    let one : Upto c.args.line.now 8 =
-    upto_first (bytes "refused ") c.put_text.auto.out (written_all (bytes "refused ") _ (omega (arith, c.requires.0)) c.unwrap_or-a.ensures c.put_text.ensures.0 c.put_text.ensures.1) (omega arith) in
-    let two : Upto c.args.line.now 28 =
-    let u = one in
-    let n = c.number.result in
-    upto_more u (count_text n) c.put_count.auto.out
-    (written_all (count_text n) _ (omega (arith, count_most n, upto_room 20 u (omega (arith, c.requires.0)))) c.unwrap_or.ensures c.put_count.ensures.0 c.put_count.ensures.1) (omega (arith, c.requires.0)) (omega (arith, count_most n)) in
-    let u = two in
+    let u = two (goal.at.After-unwrap_or-2 c).After-unwrap_or in
     let t = c.args.word.now in
     upto_more u t c.put_text-2.auto.out
     (written_all t _ (omega (arith, c.requires.1, upto_room 7 u (omega (arith, c.requires.0)))) c.unwrap_or-2.ensures c.put_text-2.ensures.0 c.put_text-2.ensures.1) (omega (arith, c.requires.0)) (omega (arith, c.requires.1))
 
 abbrev four : (c : goal.After-unwrap_or-3) → Upto c.args.line.now 55
 four c =
-    let one : Upto c.args.line.now 8 =
-    upto_first (bytes "refused ") c.put_text.auto.out (written_all (bytes "refused ") _ (omega (arith, c.requires.0)) c.unwrap_or-a.ensures c.put_text.ensures.0 c.put_text.ensures.1) (omega arith) in
-    let two : Upto c.args.line.now 28 =
-    let u = one in
-    let n = c.number.result in
-    upto_more u (count_text n) c.put_count.auto.out
-    (written_all (count_text n) _ (omega (arith, count_most n, upto_room 20 u (omega (arith, c.requires.0)))) c.unwrap_or.ensures c.put_count.ensures.0 c.put_count.ensures.1) (omega (arith, c.requires.0)) (omega (arith, count_most n)) in
-    let three : Upto c.args.line.now 35 =
-    let u = two in
-    let t = c.args.word.now in
-    upto_more u t c.put_text-2.auto.out
-    (written_all t _ (omega (arith, c.requires.1, upto_room 7 u (omega (arith, c.requires.0)))) c.unwrap_or-2.ensures c.put_text-2.ensures.0 c.put_text-2.ensures.1) (omega (arith, c.requires.0)) (omega (arith, c.requires.1)) in
-    let u = three in
+    let u = three (goal.at.After-unwrap_or-3 c).After-unwrap_or-2 in
     let n = c.args.r.place in
     upto_more u (count_text n) c.put_count-2.auto.out
     (written_all (count_text n) _ (omega (arith, count_most n, upto_room 20 u (omega (arith, c.requires.0)))) c.unwrap_or-3.ensures c.put_count-2.ensures.0 c.put_count-2.ensures.1) (omega (arith, c.requires.0)) (omega (arith, count_most n))
 
 abbrev five : (c : goal.After-unwrap_or-4) → Upto c.args.line.now 56
 five c =
-    let one : Upto c.args.line.now 8 =
-    upto_first (bytes "refused ") c.put_text.auto.out (written_all (bytes "refused ") _ (omega (arith, c.requires.0)) c.unwrap_or-a.ensures c.put_text.ensures.0 c.put_text.ensures.1) (omega arith) in
-    let two : Upto c.args.line.now 28 =
-    let u = one in
-    let n = c.number.result in
-    upto_more u (count_text n) c.put_count.auto.out
-    (written_all (count_text n) _ (omega (arith, count_most n, upto_room 20 u (omega (arith, c.requires.0)))) c.unwrap_or.ensures c.put_count.ensures.0 c.put_count.ensures.1) (omega (arith, c.requires.0)) (omega (arith, count_most n)) in
-    let three : Upto c.args.line.now 35 =
-    let u = two in
-    let t = c.args.word.now in
-    upto_more u t c.put_text-2.auto.out
-    (written_all t _ (omega (arith, c.requires.1, upto_room 7 u (omega (arith, c.requires.0)))) c.unwrap_or-2.ensures c.put_text-2.ensures.0 c.put_text-2.ensures.1) (omega (arith, c.requires.0)) (omega (arith, c.requires.1)) in
-    let four : Upto c.args.line.now 55 =
-    let u = three in
-    let n = c.args.r.place in
-    upto_more u (count_text n) c.put_count-2.auto.out
-    (written_all (count_text n) _ (omega (arith, count_most n, upto_room 20 u (omega (arith, c.requires.0)))) c.unwrap_or-3.ensures c.put_count-2.ensures.0 c.put_count-2.ensures.1) (omega (arith, c.requires.0)) (omega (arith, count_most n)) in
-    let u = four in
+    let u = four (goal.at.After-unwrap_or-4 c).After-unwrap_or-3 in
     upto_more u (bytes "\n") c.put_text-3.auto.out
     (written_all (bytes "\n") _ (omega (arith, upto_room 1 u (omega (arith, c.requires.0)))) c.unwrap_or-4.ensures c.put_text-3.ensures.0 c.put_text-3.ensures.1) (omega (arith, c.requires.0)) (omega arith)
 

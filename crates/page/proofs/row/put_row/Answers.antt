@@ -22,20 +22,12 @@ short s = (count_small s.args.x.task.0 (omega arith), count_small s.args.x.round
 counted : (c : goal.After-unwrap_or-a) → let a = c.args in
     (c.unwrap_or-a.result ≡ length (count_text a.x.task.0)) × (c.put_count.new.out ≡ count_text a.x.task.0 ++ drop c.unwrap_or-a.result a.out.now)
 counted c =
-    let short : (length (count_text c.args.x.task.0) ≤ 10) × (length (count_text c.args.x.rounds) ≤ 10) =
-    (count_small c.args.x.task.0 (omega arith), count_small c.args.x.rounds (omega arith)) in
     let a = c.args in
-    written_all (count_text a.x.task.0) a.out.now (omega (arith, short.0, c.requires)) c.unwrap_or-a.ensures c.put_count.ensures.0 c.put_count.ensures.1
+    let s = short (goal.at.After-unwrap_or-a c).Start in
+    written_all (count_text a.x.task.0) a.out.now (omega (arith, s.0, c.requires)) c.unwrap_or-a.ensures c.put_count.ensures.0 c.put_count.ensures.1
 
 far : (c : goal.After-unwrap_or-a) → (c.unwrap_or-a.result ≤ 10) × (max_row ≤ length c.args.out.now)
-far c =
-    let short : (length (count_text c.args.x.task.0) ≤ 10) × (length (count_text c.args.x.rounds) ≤ 10) =
-    (count_small c.args.x.task.0 (omega arith), count_small c.args.x.rounds (omega arith)) in
-    let counted : let a = c.args in
-    (c.unwrap_or-a.result ≡ length (count_text a.x.task.0)) × (c.put_count.new.out ≡ count_text a.x.task.0 ++ drop c.unwrap_or-a.result a.out.now) =
-    let a = c.args in
-    written_all (count_text a.x.task.0) a.out.now (omega (arith, short.0, c.requires)) c.unwrap_or-a.ensures c.put_count.ensures.0 c.put_count.ensures.1 in
-    omega (arith, short.0, counted.0, c.requires)
+far c = omega (arith, (short (goal.at.After-unwrap_or-a c).Start).0, (counted c).0, c.requires)
 
 pub spaced_word-b-requires : goal.spaced_word-b-requires
 spaced_word-b-requires c = omega (arith, far (goal.at.spaced_word-b-requires c).After-unwrap_or-a, word_most c.args.cells.0)
@@ -46,79 +38,32 @@ spaced_bound-c-requires c = omega (arith, far (goal.at.spaced_bound-c-requires c
 bounded : (c : goal.After-spaced_bound-c) → let a = c.args in
     Filled a.out.now c.spaced_bound-c.new.out ((count_text a.x.task.0 ++ 32 ∷ word_text a.cells.0) ++ 32 ∷ bound_text a.cells.1) c.spaced_bound-c.result
 bounded c =
-    let short : (length (count_text c.args.x.task.0) ≤ 10) × (length (count_text c.args.x.rounds) ≤ 10) =
-    (count_small c.args.x.task.0 (omega arith), count_small c.args.x.rounds (omega arith)) in
-    let counted : let a = c.args in
-    (c.unwrap_or-a.result ≡ length (count_text a.x.task.0)) × (c.put_count.new.out ≡ count_text a.x.task.0 ++ drop c.unwrap_or-a.result a.out.now) =
     let a = c.args in
-    written_all (count_text a.x.task.0) a.out.now (omega (arith, short.0, c.requires)) c.unwrap_or-a.ensures c.put_count.ensures.0 c.put_count.ensures.1 in
-    let a = c.args in
-    let f₀ = filled_text (count_text a.x.task.0) c.put_count.auto.out counted in
+    let f₀ = filled_text (count_text a.x.task.0) c.put_count.auto.out (counted (goal.at.After-spaced_bound-c c).After-unwrap_or-a) in
     let f₁ = filled_at f₀ (32 ∷ word_text a.cells.0) c.spaced_word-b.auto.out c.spaced_word-b.ensures in
     filled_at f₁ (32 ∷ bound_text a.cells.1) c.spaced_bound-c.auto.out c.spaced_bound-c.ensures.value
 
 -- what is still to come ends within the longest row
 rest : (c : goal.After-spaced_bound-c) → (c.spaced_bound-c.result + 23 + length (count_text c.args.x.rounds) ≤ max_row) × (max_row ≤ length c.args.out.now)
 rest c =
-    let short : (length (count_text c.args.x.task.0) ≤ 10) × (length (count_text c.args.x.rounds) ≤ 10) =
-    (count_small c.args.x.task.0 (omega arith), count_small c.args.x.rounds (omega arith)) in
-    let counted : let a = c.args in
-    (c.unwrap_or-a.result ≡ length (count_text a.x.task.0)) × (c.put_count.new.out ≡ count_text a.x.task.0 ++ drop c.unwrap_or-a.result a.out.now) =
-    let a = c.args in
-    written_all (count_text a.x.task.0) a.out.now (omega (arith, short.0, c.requires)) c.unwrap_or-a.ensures c.put_count.ensures.0 c.put_count.ensures.1 in
-    let far : (c.unwrap_or-a.result ≤ 10) × (max_row ≤ length c.args.out.now) =
-    omega (arith, short.0, counted.0, c.requires) in
-    omega (arith, far, short.1, word_most c.args.cells.0, c.spaced_word-b.ensures.0, c.spaced_bound-c.ensures.upper_bound)
+    let e = goal.at.After-spaced_bound-c c in
+    omega (arith, far e.After-unwrap_or-a, (short e.Start).1, word_most c.args.cells.0, c.spaced_word-b.ensures.0, c.spaced_bound-c.ensures.upper_bound)
 
 rounds : (c : goal.After-unwrap_or) → let r = c.spaced_bound-c.result in
     PutAt (32 ∷ count_text c.args.x.rounds) r (r + c.unwrap_or.result) c.spaced_bound-c.new.out c.spaced_count.new.out
 rounds c =
-    let short : (length (count_text c.args.x.task.0) ≤ 10) × (length (count_text c.args.x.rounds) ≤ 10) =
-    (count_small c.args.x.task.0 (omega arith), count_small c.args.x.rounds (omega arith)) in
-    let counted : let a = c.args in
-    (c.unwrap_or-a.result ≡ length (count_text a.x.task.0)) × (c.put_count.new.out ≡ count_text a.x.task.0 ++ drop c.unwrap_or-a.result a.out.now) =
-    let a = c.args in
-    written_all (count_text a.x.task.0) a.out.now (omega (arith, short.0, c.requires)) c.unwrap_or-a.ensures c.put_count.ensures.0 c.put_count.ensures.1 in
-    let bounded : let a = c.args in
-    Filled a.out.now c.spaced_bound-c.new.out ((count_text a.x.task.0 ++ 32 ∷ word_text a.cells.0) ++ 32 ∷ bound_text a.cells.1) c.spaced_bound-c.result =
-    let a = c.args in
-    let f₀ = filled_text (count_text a.x.task.0) c.put_count.auto.out counted in
-    let f₁ = filled_at f₀ (32 ∷ word_text a.cells.0) c.spaced_word-b.auto.out c.spaced_word-b.ensures in
-    filled_at f₁ (32 ∷ bound_text a.cells.1) c.spaced_bound-c.auto.out c.spaced_bound-c.ensures.value in
-    let far : (c.unwrap_or-a.result ≤ 10) × (max_row ≤ length c.args.out.now) =
-    omega (arith, short.0, counted.0, c.requires) in
-    let rest : (c.spaced_bound-c.result + 23 + length (count_text c.args.x.rounds) ≤ max_row) × (max_row ≤ length c.args.out.now) =
-    omega (arith, far, short.1, word_most c.args.cells.0, c.spaced_word-b.ensures.0, c.spaced_bound-c.ensures.upper_bound) in
-    let s = c.spaced_count in
-    at_all (32 ∷ count_text c.args.x.rounds) c.spaced_bound-c.new.out c.spaced_bound-c.result (omega (arith, rest, bounded.kept)) c.unwrap_or.ensures s.ensures
+    let e = (goal.at.After-unwrap_or c).After-spaced_bound-c in
+    at_all (32 ∷ count_text c.args.x.rounds) c.spaced_bound-c.new.out c.spaced_bound-c.result (omega (arith, rest e, (bounded e).kept)) c.unwrap_or.ensures c.spaced_count.ensures
 
 filled : (c : goal.After-spaced_last-e) → let a = c.args in
     Filled a.out.now (set c.spaced_last-e.new.out c.spaced_last-e.result 10) (((((count_text a.x.task.0 ++ 32 ∷ word_text a.cells.0) ++ 32 ∷ bound_text a.cells.1) ++ 32 ∷ count_text a.x.rounds) ++ spaced_last a.last) ++ 10 ∷ []) (c.spaced_last-e.result + 1)
 filled c =
-    let short : (length (count_text c.args.x.task.0) ≤ 10) × (length (count_text c.args.x.rounds) ≤ 10) =
-    (count_small c.args.x.task.0 (omega arith), count_small c.args.x.rounds (omega arith)) in
-    let counted : let a = c.args in
-    (c.unwrap_or-a.result ≡ length (count_text a.x.task.0)) × (c.put_count.new.out ≡ count_text a.x.task.0 ++ drop c.unwrap_or-a.result a.out.now) =
     let a = c.args in
-    written_all (count_text a.x.task.0) a.out.now (omega (arith, short.0, c.requires)) c.unwrap_or-a.ensures c.put_count.ensures.0 c.put_count.ensures.1 in
-    let bounded : let a = c.args in
-    Filled a.out.now c.spaced_bound-c.new.out ((count_text a.x.task.0 ++ 32 ∷ word_text a.cells.0) ++ 32 ∷ bound_text a.cells.1) c.spaced_bound-c.result =
-    let a = c.args in
-    let f₀ = filled_text (count_text a.x.task.0) c.put_count.auto.out counted in
-    let f₁ = filled_at f₀ (32 ∷ word_text a.cells.0) c.spaced_word-b.auto.out c.spaced_word-b.ensures in
-    filled_at f₁ (32 ∷ bound_text a.cells.1) c.spaced_bound-c.auto.out c.spaced_bound-c.ensures.value in
-    let far : (c.unwrap_or-a.result ≤ 10) × (max_row ≤ length c.args.out.now) =
-    omega (arith, short.0, counted.0, c.requires) in
-    let rest : (c.spaced_bound-c.result + 23 + length (count_text c.args.x.rounds) ≤ max_row) × (max_row ≤ length c.args.out.now) =
-    omega (arith, far, short.1, word_most c.args.cells.0, c.spaced_word-b.ensures.0, c.spaced_bound-c.ensures.upper_bound) in
-    let rounds : let r = c.spaced_bound-c.result in
-    PutAt (32 ∷ count_text c.args.x.rounds) r (r + c.unwrap_or.result) c.spaced_bound-c.new.out c.spaced_count.new.out =
-    let s = c.spaced_count in
-    at_all (32 ∷ count_text c.args.x.rounds) c.spaced_bound-c.new.out c.spaced_bound-c.result (omega (arith, rest, bounded.kept)) c.unwrap_or.ensures s.ensures in
-    let a = c.args in
-    let f₃ = filled_at bounded (32 ∷ count_text a.x.rounds) c.spaced_count.auto.out rounds in
+    let e = goal.at.After-spaced_last-e c in
+    let put = rounds e.After-unwrap_or in
+    let f₃ = filled_at (bounded e.After-spaced_bound-c) (32 ∷ count_text a.x.rounds) c.spaced_count.auto.out put in
     let f₄ = filled_at f₃ (spaced_last a.last) c.spaced_last-e.auto.out c.spaced_last-e.ensures.value in
-    filled_byte f₄ 10 (omega (arith, rest, rounds.0, c.spaced_last-e.ensures.upper_bound))
+    filled_byte f₄ 10 (omega (arith, rest e.After-spaced_bound-c, put.0, c.spaced_last-e.ensures.upper_bound))
 
 pub overflow_add-d : goal.overflow_add-d
 overflow_add-d c = omega (arith, rest (goal.at.overflow_add-d c).After-spaced_bound-c, (rounds (goal.at.overflow_add-d c).After-unwrap_or).0)
