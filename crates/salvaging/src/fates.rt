@@ -24,10 +24,10 @@ fn same(a: &[u8], b: &[u8]) -> bool
     a == b
 }
 
-// Whether a good block has the bytes of one before it. Of a good block that one is good too, so nothing else is asked of it.
+// Whether a block has the bytes of one before it. Of a good block that one is good too, so nothing else is asked of it.
 fn is_doubled(input: &[u8], i: usize) -> bool
-    requires { (i < max_blocks) × (block_size * i + block_size ≤ length input.now) × (good_at input.now i ≡ true) }
-    ensures { result ≡ is_doubled input.now i }
+    requires { (i < max_blocks) × (block_size * i + block_size ≤ length input.now) }
+    ensures { good_at input.now i ≡ true → result ≡ is_doubled input.now i }
 {
     (0..i).any(|j| same(block_at(input, j), block_at(input, i)))
 }

@@ -73,18 +73,23 @@ fn check_room(length: usize, entries: usize, room: usize) -> Result<(), Refusal>
     Ok(())
 }
 
-// The archive that the blocks of an input make, at the start of out, and what became of each block, in list: the list is written unless 15 or 11 is given, the output only where
-// nothing is refused.
+// The archive that the blocks of an input make, at the start of out, and what became of each block, in list. All is found out before anything that is lent is written: the list is
+// written unless 15 or 11 is given, the output only where nothing is refused.
 #[tactic(auto, unfolding(crate::specs::Salvage::salvage_fault, crate::specs::Salvage::salvage_answer, crate::specs::Salvage::listed, crate::specs::Salvage::salvaged))]
 pub fn salvage(input: &[u8], list: &mut [u8], out: &mut [u8]) -> Result<usize, Refusal>
     ensures { (result ≡ salvage_answer input.now (length list.old) (length out.old)) × (list.new ≡ listed input.now list.old (length out.old)) × (out.new ≡ salvaged input.now (length list.old) out.old) }
 {
     check_room(input.len(), list.len(), out.len())?;
     let k = blocks_of(input.len());
-    fates::put_codes(&mut list[..k], input);
+    let mut codes = [0u8; MAX_BLOCKS];
+    fates::put_codes(&mut codes[..k], input);
     let card = Card {
         input,
-        codes: &list[..k],
+        codes: &codes[..k],
     };
-    card.mend(out)
+    let found = card.find();
+    list[..k].copy_from_slice(card.codes);
+    let n = found?;
+    card.put_in_order(out, n);
+    Ok(SIZE * n)
 }

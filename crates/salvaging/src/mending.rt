@@ -8,7 +8,7 @@ impl Card<'_> {
     ghost use Rattle.block.specs.Block.{block_size};
     ghost use Rattle.card.specs.Archive.{block_at, table_in};
     ghost use Rattle.salvaging.specs.Salvage.{left_in, left_fault, place_of, Placed, in_order};
-    ghost use Rattle.table.specs.Answers.{or_wrote, or_text};
+    ghost use Rattle.table.specs.Answers.{or_wrote};
 
     // Where the block left with a number is; how many blocks there are if there is none.
     fn place_of(&self, number: u32) -> usize
@@ -54,16 +54,14 @@ impl Card<'_> {
         }
     }
 
-    // The archive that the blocks left make, at the start of out, and how many bytes it has; or what is said against them: 14, and then the table's own.
+    // What is said against the blocks left, 14 and then the table's own; or how many they are.
     #[tactic(auto, unfolding(crate::specs::Salvage::left_fault))]
-    pub(crate) fn mend(&self, out: &mut [u8]) -> Result<usize, Refusal>
-        requires { block_size * length self.now.codes.now ≤ length out.old }
-        ensures { (result ≡ or_wrote (left_fault self.now.input.now self.now.codes.now) (block_size * left_in self.now.codes.now)) × (out.new ≡ or_text (left_fault self.now.input.now self.now.codes.now) (in_order self.now.input.now self.now.codes.now (left_in self.now.codes.now)) out.old) }
+    pub(crate) fn find(&self) -> Result<usize, Refusal>
+        ensures { result ≡ or_wrote (left_fault self.now.input.now self.now.codes.now) (left_in self.now.codes.now) }
     {
         self.check_complete()?;
         let n = self.left();
         checking::check(self.table(n))?;
-        self.put_in_order(out, n);
-        Ok(SIZE * n)
+        Ok(n)
     }
 }
