@@ -3,8 +3,11 @@
 use Prim.Native.Nat.{ℕ, ◌+◌, ◌≤◌, ◌<◌}
 use mathlib.Core.Path.{◌≡◌, refl, ap, ◌∙◌}
 use mathlib.Core.List.{List, [], ◌∷◌, ◌++◌, append_assoc, append-nil}
+use native.Mathlib.Numerals.{add-one}
 use native.Mathlib.Omega.{arith}
-use lib.ListN.{length, drop, length-append}
+use lib.Dec.{ltb}
+use lib.ListN.{length, drop, get_or, length-append}
+use Rattle.basics.specs.Choice.{pick}
 use borrow.Author.Tests.{lt-ltb, le-ltb}
 use Rattle.basics.specs.Over.{join_to}
 use Rattle.basics.specs.Text.{bytes, ending, line_of}
@@ -15,8 +18,8 @@ use Rattle.put.proofs.PlaceLaws.{filled_within}
 use Rattle.table.specs.declared.Pair.{Pair}
 use Rattle.table.specs.declared.Task.{Task}
 use Rattle.table.specs.declared.Table.{Table}
-use Rattle.table.specs.At.{task_at}
-use Rattle.writing.specs.Write.{use_text, times_text, alpha_text, task_text, group_text, head_text}
+use Rattle.table.specs.At.{task_at, pair_of}
+use Rattle.writing.specs.Write.{use_text, pair_text, times_text, alpha_text, task_text, group_text, member_text, head_text}
 
 -- ---- texts f 0, f 1, .., one after the other, behind h
 
@@ -45,6 +48,16 @@ module _ (h : List ℕ) (f : ℕ → List ℕ) where
 -- what a writer of s put, where that is t
 pub put_of : {s t ys : List ℕ} (o : List ℕ) {k : ℕ} → s ≡ t → (k ≡ length s) × (ys ≡ s ++ drop k o) → (k ≡ length t) × (ys ≡ t ++ drop k o)
 put_of o e p = rw e at p
+
+-- ---- the lines of the resource at slot k, which is resource k + 1
+
+pub pair_at : (x : Task) (k : ℕ) → pick (ltb 0 (pair_of x k).requests) (use_text (k + 1) (pair_of x k)) [] ≡ pair_text x k
+unfolding pair_text
+pair_at x k = rw add-one
+
+pub member_at : (groups : List ℕ) (k : ℕ) → pick (ltb 0 (get_or groups k 0)) (group_text (get_or groups k 0) (k + 1)) [] ≡ member_text groups k
+unfolding member_text
+member_at groups k = rw add-one
 
 -- ---- how long a line is
 

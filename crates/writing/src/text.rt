@@ -1,13 +1,12 @@
 // The text of a table. Each writer here has the room for what it writes: `write` works the length out first.
-ghost use Rattle.std.specs.Prelude.{◌≡◌, [], ◌++◌, suc, ◌*◌, ◌<◌, ◌≤◌, length, drop, ltb};
+ghost use Rattle.std.specs.Prelude.{◌≡◌, [], ◌++◌, ◌*◌, ◌≤◌, length, drop, ltb};
 ghost use Rattle.basics.specs.Choice.{pick};
 ghost use Rattle.basics.specs.Text.{bytes};
-ghost use Rattle.table.specs.Limits.{max_resources};
 ghost use Rattle.table.specs.Rules.{table_fault};
 ghost use Rattle.writing.specs.Line.{field_text, line_text, optional_text};
 ghost use Rattle.writing.specs.Write.{use_text, times_text, alpha_text, task_text, group_text, head_text, text_of};
 
-use table::{Pair, Table, Task};
+use table::{Pair, Resource, Table, Task};
 
 // A field of a line.
 #[derive(Clone, Copy)]
@@ -91,17 +90,16 @@ fn put_optional<const N: usize>(out: &mut [u8], word: &[u8], fields: Option<[Fie
     }
 }
 
-// The fields of `use K N c CT`, K being k + 1: of a pair in use, which has a request.
+// The fields of `use K N c CT`, of a pair in use, which has a request.
 #[tactic(auto, unfolding(crate::specs::Write::use_text))]
-fn use_fields(k: usize, p: Pair) -> Option<[Field; 4]>
-    requires { k < max_resources }
-    ensures { optional_text (bytes "use") result ≡ pick (ltb 0 p.requests) (use_text (suc k) p) [] }
+fn use_fields(k: Resource, p: Pair) -> Option<[Field; 4]>
+    ensures { optional_text (bytes "use") result ≡ pick (ltb 0 p.requests) (use_text k.0 p) [] }
 {
     if p.requests == 0 {
         return None;
     }
     Some([
-        Field::Count((k + 1) as u32),
+        Field::Count(k.0),
         Field::Count(p.requests),
         Field::Time(p.longest),
         Field::Time(p.total),
@@ -130,16 +128,15 @@ fn alpha_fields(alpha: u32) -> Option<[Field; 1]>
     Some([Field::Count(alpha)])
 }
 
-// Those of `group G K`, K being k + 1, of a resource that has a group.
+// Those of `group G K`, of a resource that has a group.
 #[tactic(auto, unfolding(crate::specs::Write::group_text))]
-fn group_fields(group: u32, k: usize) -> Option<[Field; 2]>
-    requires { k < max_resources }
-    ensures { optional_text (bytes "group") result ≡ pick (ltb 0 group) (group_text group (suc k)) [] }
+fn group_fields(group: u32, k: Resource) -> Option<[Field; 2]>
+    ensures { optional_text (bytes "group") result ≡ pick (ltb 0 group) (group_text group k.0) [] }
 {
     if group == 0 {
         return None;
     }
-    Some([Field::Count(group), Field::Count((k + 1) as u32)])
+    Some([Field::Count(group), Field::Count(k.0)])
 }
 
 // Measured apart from `put_task`, as the other texts below are: nothing is written until it is known that all of it fits.
@@ -149,7 +146,7 @@ fn task_len(x: &Task) -> usize
 {
     let mut sum = line_len(b"task", &times(x)) + optional_len(b"alpha", alpha_fields(x.alpha));
     for (k, p) in x.pairs.iter().enumerate() {
-        sum += optional_len(b"use", use_fields(k, *p));
+        sum += optional_len(b"use", use_fields(Resource(k as u32 + 1), *p));
     }
     sum
 }
@@ -162,7 +159,11 @@ fn put_task(out: &mut [u8], x: &Task) -> usize
     let mut at = put_line(out, b"task", &times(x));
     at += put_optional(&mut out[at..], b"alpha", alpha_fields(x.alpha));
     for (k, p) in x.pairs.iter().enumerate() {
-        at += put_optional(&mut out[at..], b"use", use_fields(k, *p));
+        at += put_optional(
+            &mut out[at..],
+            b"use",
+            use_fields(Resource(k as u32 + 1), *p),
+        );
     }
     at
 }
@@ -173,7 +174,7 @@ fn head_len(cpus: u32, groups: &[u32; Table::MAX_RESOURCES]) -> usize
 {
     let mut sum = line_len(b"cpus", &[Field::Count(cpus)]);
     for (k, group) in groups.iter().enumerate() {
-        sum += optional_len(b"group", group_fields(*group, k));
+        sum += optional_len(b"group", group_fields(*group, Resource(k as u32 + 1)));
     }
     sum
 }
@@ -185,7 +186,11 @@ fn put_head(out: &mut [u8], cpus: u32, groups: &[u32; Table::MAX_RESOURCES]) -> 
 {
     let mut at = put_line(out, b"cpus", &[Field::Count(cpus)]);
     for (k, group) in groups.iter().enumerate() {
-        at += put_optional(&mut out[at..], b"group", group_fields(*group, k));
+        at += put_optional(
+            &mut out[at..],
+            b"group",
+            group_fields(*group, Resource(k as u32 + 1)),
+        );
     }
     at
 }

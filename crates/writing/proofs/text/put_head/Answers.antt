@@ -1,5 +1,5 @@
 use Prim.Native.Nat.{ℕ, ◌+◌, ◌≤◌}
-use mathlib.Core.Path.{◌≡◌, ap}
+use mathlib.Core.Path.{◌≡◌, ap, ◌∙◌}
 use mathlib.Core.List.{◌++◌}
 use native.Mathlib.Omega.{arith}
 use lib.Dec.{lit<}
@@ -8,7 +8,7 @@ use Rattle.basics.specs.Over.{join_to}
 use Rattle.basics.proofs.FillLaws.{rest_length}
 use Rattle.put.proofs.OutputLaws.{filled_text, filled_done}
 use Rattle.writing.specs.Write.{member_text, head_text}
-use Rattle.writing.proofs.WriteLaws.{put_of, filled_first, next_room, filled_next, cpus_text}
+use Rattle.writing.proofs.WriteLaws.{put_of, member_at, filled_first, next_room, filled_next, cpus_text}
 use Rattle.writing.proofs.text.put_head.Goals as goal
 use Rattle.writing.proofs.text.put_head.Goals.{In-loop-k}
 
@@ -27,17 +27,15 @@ loop-k-init c =
     filled_first (cpus_text a.cpus) (member_text a.groups.now) (filled_text (cpus_text a.cpus) c.put_line-at.auto.out c.put_line-at.ensures)
 
 pub put_optional-at-requires : goal.put_optional-at-requires
-unfolding member_text
 put_optional-at-requires c =
     let l = c.loop-k in
-    (lit< tt, omega (arith, room (goal.at.put_optional-at-requires c).In-loop-k, rest_length l.out l.at, ap length c.group_fields.ensures))
+    (lit< tt, omega (arith, room (goal.at.put_optional-at-requires c).In-loop-k, rest_length l.out l.at, ap length (c.group_fields.ensures ∙ member_at c.args.groups.now l.k)))
 
 pub loop-k-preserved : goal.loop-k-preserved
-unfolding member_text
 loop-k-preserved c =
     let a = c.args in
     let p = c.put_optional-at in
-    filled_next (cpus_text a.cpus) (member_text a.groups.now) c.loop-k.k c.loop-k.invariant p.auto.out (put_of _ c.group_fields.ensures p.ensures)
+    filled_next (cpus_text a.cpus) (member_text a.groups.now) c.loop-k.k c.loop-k.invariant p.auto.out (put_of _ (c.group_fields.ensures ∙ member_at a.groups.now c.loop-k.k) p.ensures)
 
 pub returns : goal.returns
 unfolding head_text

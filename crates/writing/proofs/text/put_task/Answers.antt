@@ -1,5 +1,5 @@
 use Prim.Native.Nat.{◌+◌, ◌≤◌}
-use mathlib.Core.Path.{◌≡◌, ap}
+use mathlib.Core.Path.{◌≡◌, ap, ◌∙◌}
 use native.Mathlib.Omega.{arith}
 use lib.Dec.{lit<}
 use lib.ListN.{length, length-append}
@@ -8,7 +8,7 @@ use Rattle.basics.proofs.FillLaws.{Filled, rest_length, filled_part}
 use Rattle.put.proofs.OutputLaws.{filled_text, filled_done}
 use Rattle.put.proofs.PlaceLaws.{filled_within}
 use Rattle.writing.specs.Write.{times_text, alpha_text, own_text, pair_text, task_text}
-use Rattle.writing.proofs.WriteLaws.{put_of, filled_first, next_room, filled_next}
+use Rattle.writing.proofs.WriteLaws.{put_of, pair_at, filled_first, next_room, filled_next}
 use Rattle.writing.proofs.text.put_task.Goals as goal
 use Rattle.writing.proofs.text.put_task.Goals.{Start, After-put_line-at, In-loop-k}
 
@@ -37,10 +37,9 @@ put_optional-at-requires c =
     (lit< tt, omega (arith, own s, l.long, l.kept, rest_length c.put_line-at.new.out c.put_line-at.result, ap length c.alpha_fields.ensures))
 
 pub put_optional-at-requires-in-loop-k : goal.put_optional-at-requires-in-loop-k
-unfolding pair_text
 put_optional-at-requires-in-loop-k c =
     let l = c.loop-k in
-    (lit< tt, omega (arith, room (goal.at.put_optional-at-requires-in-loop-k c).In-loop-k, rest_length l.out l.at, ap length c.use_fields.ensures))
+    (lit< tt, omega (arith, room (goal.at.put_optional-at-requires-in-loop-k c).In-loop-k, rest_length l.out l.at, ap length (c.use_fields.ensures ∙ pair_at c.args.x.now l.k)))
 
 pub loop-k-init : goal.loop-k-init
 loop-k-init c =
@@ -50,11 +49,10 @@ loop-k-init c =
     filled_first (own_text x) (pair_text x) (filled_part l (alpha_text x.alpha) (filled_within l) p.0 c.put_optional-at.auto.out p.1)
 
 pub loop-k-preserved : goal.loop-k-preserved
-unfolding pair_text
 loop-k-preserved c =
     let x = c.args.x.now in
     let p = c.put_optional-at-in-loop-k in
-    filled_next (own_text x) (pair_text x) c.loop-k.k c.loop-k.invariant p.auto.out (put_of _ c.use_fields.ensures p.ensures)
+    filled_next (own_text x) (pair_text x) c.loop-k.k c.loop-k.invariant p.auto.out (put_of _ (c.use_fields.ensures ∙ pair_at x c.loop-k.k) p.ensures)
 
 pub returns : goal.returns
 unfolding task_text

@@ -2,7 +2,7 @@ use mathlib.Core.Path.{◌≡◌, ap, ◌∙◌}
 use native.Mathlib.Omega.{arith}
 use lib.ListN.{length, length-append}
 use Rattle.writing.specs.Write.{times_text, alpha_text, own_text, pair_text, task_text}
-use Rattle.writing.proofs.WriteLaws.{none_yet, more_length}
+use Rattle.writing.proofs.WriteLaws.{none_yet, more_length, pair_at}
 use Rattle.writing.proofs.text.task_len.Goals as goal
 
 pub loop-k-init : goal.loop-k-init
@@ -15,10 +15,9 @@ loop-k-init c =
     )
 
 pub loop-k-preserved : goal.loop-k-preserved
-unfolding pair_text
 loop-k-preserved c =
     let x = c.args.x.now in
-    let line : c.optional_len-sum.result ≡ length (pair_text x c.loop-k.k) = c.optional_len-sum.ensures.value ∙ ap length c.use_fields.ensures in
+    let line : c.optional_len-sum.result ≡ length (pair_text x c.loop-k.k) = c.optional_len-sum.ensures.value ∙ ap length (c.use_fields.ensures ∙ pair_at x c.loop-k.k) in
     (omega (arith, c.optional_len-sum.ensures.upper_bound), omega (arith, more_length (own_text x) (pair_text x) c.loop-k.k))
 
 pub returns : goal.returns
