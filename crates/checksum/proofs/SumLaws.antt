@@ -15,7 +15,7 @@ unfolding ones_sum
 sum_none s = refl
 
 -- one pair more
-sum_more : (k : ℕ) (s : List ℕ) {x w : ℕ} → x ≡ ones_sum k s → w ≡ get_or s (2 * k) 0 * 256 + get_or s (2 * k + 1) 0 → ones_plus x w ≡ ones_sum (k + 1) s
+pub sum_more : (k : ℕ) (s : List ℕ) {x w : ℕ} → x ≡ ones_sum k s → w ≡ get_or s (2 * k) 0 * 256 + get_or s (2 * k + 1) 0 → ones_plus x w ≡ ones_sum (k + 1) s
 unfolding ones_sum word_at
 sum_more k s e f = rw (add-one, e, f)
 

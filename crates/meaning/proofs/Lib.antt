@@ -13,7 +13,7 @@
 --   Meaning       correct, complete, passes_check
 --   OneReading    unambiguous
 --   Sides         each figure of an accepted listing's table lies on its side of what was typed
---   Refused       a refused reading gives the empty table
+--   Refused       a refused reading has no table: where one is asked for, the empty one
 --   ListingRefusals   refused_as_called
 --   FieldBack     the text of a number states it, and is read back
 --   TextGroups    the group lines of an accepted table's text state its groups

@@ -20,7 +20,7 @@ use Rattle.put.specs.Text.{digits_of, width, count_text}
 -- ---- how wide a number is
 
 -- whether n is below 10 ^ (k + 1)
-abbrev tens : ℕ → ℕ → Bool
+abbrev pub tens : ℕ → ℕ → Bool
 tens n k = ltb n (10 ^ suc k)
 
 found : (n : ℕ) → First 19 (tens n) (first_to 19 (tens n))
@@ -30,7 +30,7 @@ pub width_least : (n : ℕ) → 1 ≤ width n
 unfolding width
 width_least n = omega arith
 
-width_most : (n : ℕ) → width n ≤ 20
+pub width_most : (n : ℕ) → width n ≤ 20
 unfolding width
 width_most n = omega (arith, (found n).upto)
 

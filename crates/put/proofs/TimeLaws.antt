@@ -16,13 +16,13 @@ use Rattle.put.proofs.TextLaws.{width_few, digits_length, count_length}
 -- ---- fractions
 
 module _ (x : ℕ) where
-  trim_three : (x % 10 ≡ 0 → ⊥) → trim (digits_of 3 x) ≡ digits_of 3 x
+  pub trim_three : (x % 10 ≡ 0 → ⊥) → trim (digits_of 3 x) ≡ digits_of 3 x
   trim_three h = rw (ne_eqb (48 + x % 10) 48 (λ q. h (omega arith)))
 
-  trim_two : x % 10 ≡ 0 → (x % 100 ≡ 0 → ⊥) → trim (digits_of 3 x) ≡ digits_of 2 (x / 10)
+  pub trim_two : x % 10 ≡ 0 → (x % 100 ≡ 0 → ⊥) → trim (digits_of 3 x) ≡ digits_of 2 (x / 10)
   trim_two e h = rw (eq-eqb (48 + x % 10) 48 (omega arith), ne_eqb (48 + x / 10 % 10) 48 (λ q. h (omega arith)))
 
-  trim_one : x % 100 ≡ 0 → (x ≡ 0 → ⊥) → x < 1000 → trim (digits_of 3 x) ≡ digits_of 1 (x / 100)
+  pub trim_one : x % 100 ≡ 0 → (x ≡ 0 → ⊥) → x < 1000 → trim (digits_of 3 x) ≡ digits_of 1 (x / 100)
   trim_one e h l =
       let q : x / 10 / 10 % 10 ≡ x / 100 % 10 = omega arith in
       rw (eq-eqb (48 + x % 10) 48 (omega arith), eq-eqb (48 + x / 10 % 10) 48 (omega arith), q, ne_eqb (48 + x / 100 % 10) 48 (λ z. h (omega arith)))
@@ -59,7 +59,7 @@ module _ (x k y : ℕ) (e : trim (digits_of 3 x) ≡ digits_of k y) where
   pub fraction_none : k ≡ 0 → fraction_text x ≡ []
   fraction_none z = rw (e, z)
 
-  fraction_some : (k ≡ 0 → ⊥) → fraction_text x ≡ 46 ∷ digits_of k y
+  pub fraction_some : (k ≡ 0 → ⊥) → fraction_text x ≡ 46 ∷ digits_of k y
   fraction_some h = rw (e, full (digits_of k y) (omega (arith, digits_length k y)))
     where
       full : (ys : List ℕ) → 0 < length ys → pointed ys ≡ 46 ∷ ys

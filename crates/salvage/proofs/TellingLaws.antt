@@ -56,7 +56,7 @@ word_is Kept = refl
 word_is Moved = refl
 
 -- the lines of the codes of the first k blocks
-lines_are : (s : List ℕ) (k : ℕ) → join_to (length (row_to k (code_at s))) (code_line (row_to k (code_at s))) ≡ join_to k (fate_line s)
+pub lines_are : (s : List ℕ) (k : ℕ) → join_to (length (row_to k (code_at s))) (code_line (row_to k (code_at s))) ≡ join_to k (fate_line s)
 lines_are s k =
     rw row_length (join_eq k (code_line (row_to k (code_at s))) (fate_line s) (λ i h. ap (word_line (i + 1)) (ap code_word (row_at k i (code_at s) 0 h) ∙ word_is (fate_at s i))))
 
@@ -67,7 +67,7 @@ list_card s list room h r e =
     let c = card_whole (length s) e in
     rw (e, le-leb (length s / 512) (length list) (omega (arith, c.2)), le-leb (length s) room (omega (arith, c.0, c.2)))
 
-list_is : (s list : List ℕ) (room : ℕ) → max_blocks ≤ length list → max_card ≤ room → take (blocks_of (length s)) (listed s list room) ≡ row_to (blocks_of (length s)) (code_at s)
+pub list_is : (s list : List ℕ) (room : ℕ) → max_blocks ≤ length list → max_card ≤ room → take (blocks_of (length s)) (listed s list room) ≡ row_to (blocks_of (length s)) (code_at s)
 unfolding blocks_of codes_of join_to
 list_is s list room h r = go (is_card (length s)) refl
   where
